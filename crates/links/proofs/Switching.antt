@@ -7,7 +7,7 @@ use lib.ListN.{length}
 use Rattle.std.proofs.shelf.Tests.{le-leb, lt-leb}
 use Rattle.std.specs.declared.option.Option.the-variants.{Some, None}
 use Rattle.links.specs.declared.link.Link.{Link}
-use Rattle.links.specs.declared.refusal.SwitchRefusal.the-variants.{NoSuchLink, AlreadyOn, NotOn, Full}
+use Rattle.links.specs.declared.switch_refusal.SwitchRefusal.the-variants.{NoSuchLink, AlreadyOn, NotOn, Full}
 use Rattle.links.specs.Sets.{inside, member}
 use Rattle.links.specs.Answers.{on-refusal, off-refusal}
 

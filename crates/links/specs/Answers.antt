@@ -10,8 +10,8 @@ use Rattle.std.specs.declared.option.Option.the-variants.{Some, None}
 use Rattle.std.specs.declared.result.Result.{Result}
 use Rattle.std.specs.declared.result.Result.the-variants.{Ok, Err}
 use Rattle.links.specs.declared.link.Link.{Link}
-use Rattle.links.specs.declared.refusal.SwitchRefusal.{SwitchRefusal}
-use Rattle.links.specs.declared.refusal.SwitchRefusal.the-variants.{NoSuchLink, AlreadyOn, NotOn, Full}
+use Rattle.links.specs.declared.switch_refusal.SwitchRefusal.{SwitchRefusal}
+use Rattle.links.specs.declared.switch_refusal.SwitchRefusal.the-variants.{NoSuchLink, AlreadyOn, NotOn, Full}
 use Rattle.links.specs.Sets.{inside, member, touched}
 
 -- why a link is not switched on, the smallest number first; none where it is

@@ -5,10 +5,10 @@ use Rattle.std.specs.declared.result.Result.{Result}
 use Rattle.std.specs.declared.result.Result.the-variants.{Ok, Err}
 use Rattle.ordered.specs.declared.refusal.InsertRefusal.{InsertRefusal}
 use Rattle.ordered.specs.declared.refusal.InsertRefusal.the-variants.{AlreadyThere, Full as NoRoom}
-use Rattle.links.specs.declared.refusal.SwitchRefusal.{SwitchRefusal}
-use Rattle.links.specs.declared.refusal.SwitchRefusal.the-variants.{NoSuchLink, AlreadyOn, NotOn, Full}
-use Rattle.links.specs.declared.refusal.MakeRefusal.{MakeRefusal}
-use Rattle.links.specs.declared.refusal.MakeRefusal.the-variants.{OutOfRange}
+use Rattle.links.specs.declared.switch_refusal.SwitchRefusal.{SwitchRefusal}
+use Rattle.links.specs.declared.switch_refusal.SwitchRefusal.the-variants.{NoSuchLink, AlreadyOn, NotOn, Full}
+use Rattle.links.specs.declared.make_refusal.MakeRefusal.{MakeRefusal}
+use Rattle.links.specs.declared.make_refusal.MakeRefusal.the-variants.{OutOfRange}
 use Rattle.links.specs.declared.sizes.Sizes.{Sizes}
 
 -- the number of each refusal to switch a link

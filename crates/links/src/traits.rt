@@ -6,8 +6,8 @@ ghost use Rattle.links.specs.declared.link.Link.{Link};
 ghost use Rattle.links.specs.Answers.{Least, Spare, Switched, off-refusal, on-refusal};
 ghost use Rattle.links.specs.Sets.{Lawful, inserted, link-of, member, removed};
 use crate::link::Link;
-use crate::refusal::SwitchRefusal;
 use crate::sizes::Sizes;
+use crate::switch_refusal::SwitchRefusal;
 
 // A set of links that can be asked. No question changes it, and numbers outside the sizes are
 // answered no or none.

@@ -31,12 +31,6 @@ impl<'a, R: Keyed> OrderedList<'a, R> {
         }
     }
 
-    pub fn capacity(&self) -> usize
-        ensures { λ r. ⌜ r ≡ capacity (now (self .entry)) ⌝ }
-    {
-        self.records.len()
-    }
-
     pub fn len(&self) -> usize
         ensures count { λ r. ⌜ r ≡ length (items (now (self .entry))) ⌝ }
         ensures within { λ r. ⌜ r ≤ capacity (now (self .entry)) ⌝ }

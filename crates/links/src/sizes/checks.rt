@@ -4,7 +4,7 @@ ghost use Rattle.links.specs.Numbers.{Asked};
 ghost use Rattle.links.specs.Sets.{inside, In-range};
 use super::Sizes;
 use crate::link::Link;
-use crate::refusal::MakeRefusal;
+use crate::make_refusal::MakeRefusal;
 
 impl Sizes {
     // The sizes, if both are in range.

@@ -1,5 +1,5 @@
 ghost use mathlib.Core.Path.{_≡_};
-ghost use Rattle.links.specs.Numbers.{insert-as-switch, switch-number, make-number};
+ghost use Rattle.links.specs.Numbers.{insert-as-switch, switch-number};
 use ordered::InsertRefusal;
 
 // Why a link is not switched.
@@ -27,19 +27,5 @@ pub impl From<InsertRefusal> for SwitchRefusal as SwitchFromInsert {
             InsertRefusal::AlreadyThere => SwitchRefusal::AlreadyOn,
             InsertRefusal::Full => SwitchRefusal::Full,
         }
-    }
-}
-
-// Why a store cannot be made.
-#[derive(Clone, Copy, PartialEq, Eq, Debug)]
-pub enum MakeRefusal {
-    OutOfRange = 21,
-}
-
-impl MakeRefusal {
-    pub fn number(self) -> u8
-        ensures { λ r. ⌜ r ≡ make-number self ⌝ }
-    {
-        self as u8
     }
 }

@@ -1,0 +1,3 @@
+// The stores at the bounds of their sizes: both are taken through the same steps.
+#[cfg(test)]
+mod tests;

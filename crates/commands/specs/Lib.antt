@@ -1,0 +1,4 @@
+pub mod Commands
+pub mod Parts
+pub mod Texts
+pub mod Words

@@ -1,0 +1,104 @@
+use crate::replying::reply_alone;
+use crate::replying::reply_with;
+use crate::serving::Plan;
+use crate::session::Session;
+use bit_store::BitStore;
+use bit_store::BitStoreLinks;
+use bit_store::BitStoreStore;
+use commands::Kind;
+use links::Link;
+use links::Sizes;
+use links::Store;
+use list_store::ListStore;
+use list_store::ListStoreLinks;
+use list_store::ListStoreStore;
+use std::alloc::Global;
+use std::io;
+use std::io::BufRead;
+use std::io::BufReader;
+use std::io::BufWriter;
+use std::io::Write;
+
+// Serves lines until a store is made; none at the end of the input.
+fn play_alone<R: BufRead, W: Write>(session: &mut Session<R, W>) -> io::Result<Option<Plan>> {
+    for _ in 0..u64::MAX {
+        if !session.next_line()? {
+            break;
+        }
+        let reply = reply_alone(session.line());
+        session.say(reply.answer)?;
+        if reply.plan.is_some() {
+            return Ok(reply.plan);
+        }
+    }
+    Ok(None)
+}
+
+// Serves lines with a store until another is made; none at the end of the input.
+fn play<S: Store + Drop, R: BufRead, W: Write>(
+    session: &mut Session<R, W>,
+    mut store: S,
+) -> io::Result<Option<Plan>> {
+    for _ in 0..u64::MAX {
+        if !session.next_line()? {
+            break;
+        }
+        let reply = reply_with(&mut store, session.line());
+        session.say(reply.answer)?;
+        if reply.plan.is_some() {
+            return Ok(reply.plan);
+        }
+    }
+    Ok(None)
+}
+
+fn play_list<R: BufRead, W: Write>(
+    heap: Global,
+    session: &mut Session<R, W>,
+    sizes: Sizes,
+) -> io::Result<Option<Plan>> {
+    let unused = Link {
+        source: 0,
+        label: 0,
+        target: 0,
+    };
+    let mut memory = vec![in heap; unused; sizes.limit()]?;
+    play(session, ListStore::new(sizes, memory.as_mut_slice()))
+}
+
+fn play_bits<R: BufRead, W: Write>(
+    heap: Global,
+    session: &mut Session<R, W>,
+    sizes: Sizes,
+) -> io::Result<Option<Plan>> {
+    let mut words = vec![in heap; 0u32; BitStore::words_needed(sizes)]?;
+    play(session, BitStore::new(sizes, words.as_mut_slice()))
+}
+
+// Makes the store, over memory of its own, and serves lines with it.
+fn play_with<R: BufRead, W: Write>(
+    heap: Global,
+    session: &mut Session<R, W>,
+    plan: Plan,
+) -> io::Result<Option<Plan>> {
+    match plan.kind {
+        Kind::List => play_list(heap, session, plan.sizes),
+        Kind::Bits => play_bits(heap, session, plan.sizes),
+    }
+}
+
+// Reads commands from standard input until it ends, and writes their answers to standard output.
+pub fn run(rt: &LibcRuntime) -> io::Result<()> {
+    let input = BufReader::new(rt.stdin());
+    let output = BufWriter::new(rt.stdout());
+    let mut session = Session::new(input, output, Vec::new(rt.alloc()));
+    let mut next = play_alone(&mut session)?;
+    // Nothing says that an input ends, so the stores are counted.
+    for _ in 0..u64::MAX {
+        let Some(plan) = next else {
+            break;
+        };
+        next = play_with(rt.alloc(), &mut session, plan)?;
+    }
+    Ok(())
+}

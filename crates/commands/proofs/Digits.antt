@@ -6,23 +6,16 @@ use Prim.Native.Nat.{ℕ, _+_, _-_, _*_, _^_, _≤_, _<_}
 use native.Mathlib.Omega.{arith}
 use borrow.Author.Tests.{ltb-true, ltb-false, lt-ltb, le-ltb}
 use lib.Dec.{ltb}
-use lib.ListN.{length, getD, drop}
-use Rattle.std.proofs.shelf.Lists.{at-drop-more, at-drop-all}
+use lib.ListN.{length}
 use Rattle.std.proofs.shelf.Tests.{cond-true, cond-false}
 use Rattle.std.specs.Iters.{folded}
 use Rattle.std.specs.declared.option.Option.{Option}
 use Rattle.std.specs.declared.option.Option.the-variants.{Some, None}
-use Rattle.commands.specs.Words.{all-digits, decimal, is-digit, with-digit}
+use Rattle.commands.specs.Words.{all-digits, decimal, is-digit, read-from, with-digit}
+use Rattle.commands.proofs.Steps.{none-from}
 
--- the number that the digits make behind one already read
-abbrev pub digits-from : Option ℕ → List ℕ → Option ℕ
-digits-from None bs = None
-digits-from (Some v) [] = Some v
-digits-from (Some v) (b ∷ bs) = digits-from (with-digit v b) bs
-
-none-from : (bs : List ℕ) → digits-from None bs ≡ None
-none-from [] = refl
-none-from (b ∷ bs) = refl
+abbrev digits-from : Option ℕ → List ℕ → Option ℕ
+digits-from o bs = read-from with-digit o bs
 
 abbrev more : ℕ → List ℕ → ℕ
 more v bs = folded (λ v b. v * 10 + (b - 48)) v bs
@@ -43,23 +36,13 @@ stepped : (d t : Bool) (w : ℕ) (bs : List ℕ) → ltb w (2 ^ 32) ≡ t → (w
 stepped true true w bs e go = go (ltb-true w (2 ^ 32) e)
 stepped true false w bs e go =
     let far : 2 ^ 32 ≤ more w bs = omega (arith, ltb-false w (2 ^ 32) e, grows w bs) in
-    none-from bs ∙ sym (cond-false _ _ _ (and-no (all-digits bs) _ (le-ltb (more w bs) (2 ^ 32) far)))
-stepped false t w bs e go = none-from bs
+    none-from with-digit bs ∙ sym (cond-false _ _ _ (and-no (all-digits bs) _ (le-ltb (more w bs) (2 ^ 32) far)))
+stepped false t w bs e go = none-from with-digit bs
 
 read : (v : ℕ) (bs : List ℕ) → v < 2 ^ 32 → digits-from (Some v) bs ≡ whole v bs
 read v [] h = sym (cond-true _ _ _ (lt-ltb v (2 ^ 32) h))
 read v (b ∷ bs) h = stepped (is-digit b) _ (v * 10 + (b - 48)) bs refl (read (v * 10 + (b - 48)) bs)
 
 -- of a word that is not empty
-full : (bs : List ℕ) → 0 < length bs → digits-from (Some 0) bs ≡ decimal bs
+pub full : (bs : List ℕ) → 0 < length bs → digits-from (Some 0) bs ≡ decimal bs
 full bs h = read 0 bs (omega arith) ∙ sym (ap (λ t. cond (t && (all-digits bs && ltb (more 0 bs) (2 ^ 32))) (Some (more 0 bs)) None) (lt-ltb 0 (length bs) h))
-
-module _ (bs : List ℕ) (i v : ℕ) (so-far : digits-from (Some v) (drop i bs) ≡ digits-from (Some 0) bs) where
-  pub one-more : (o : Option ℕ) → i < length bs → o ≡ with-digit v (getD bs i 0) → digits-from o (drop (i + 1) bs) ≡ digits-from (Some 0) bs
-  one-more o h e = ap (λ x. digits-from x (drop (i + 1) bs)) e ∙ sym (at-drop-more (digits-from (Some v)) bs i 0 h) ∙ so-far
-
-  pub at-fault : i < length bs → None ≡ with-digit v (getD bs i 0) → None ≡ decimal bs
-  at-fault h e = sym (none-from (drop (i + 1) bs)) ∙ one-more None h e ∙ full bs (omega arith)
-
-  pub at-end : 0 < length bs → length bs ≤ i → Some v ≡ decimal bs
-  at-end some h = sym (at-drop-all (digits-from (Some v)) bs i h) ∙ so-far ∙ full bs some

@@ -13,3 +13,5 @@ missing-text missing.Number = codes "a number is missing, decimal and below 4294
 missing-text missing.Link = codes "a link is missing, written as 64-1-65"
 missing-text missing.End = codes "too many words"
 missing-text missing.Store = codes "no store"
+missing-text missing.Word = codes "a word is 8 hexadecimal digits in upper case"
+missing-text missing.Hub = codes "no hub"

@@ -2,11 +2,35 @@ ghost use mathlib.Core.Path.{_≡_};
 ghost use Rattle.commands.specs.Texts.{missing-text};
 use links::Link;
 
-// A command that names a store, or asks for one.
+// A command asks for a store, uses the one in hand, or goes to the hub.
 #[derive(Clone, Copy)]
 pub enum Command {
     Make(Wanted),
     Use(Call),
+    Hub(HubCall),
+}
+
+// What the hub is asked to do; the words of a rule set follow on the line.
+#[derive(Clone, Copy)]
+pub enum HubCall {
+    Commission(WantedHub),
+    Rules,
+    Write(u32),
+    Survey(Survey),
+}
+
+#[derive(Clone, Copy)]
+pub struct WantedHub {
+    pub plate: u32,
+    pub life: u32,
+    pub rows: u32,
+}
+
+// The survey of one rule, into a buffer of so many words where the line tells them.
+#[derive(Clone, Copy)]
+pub struct Survey {
+    pub rule: u32,
+    pub room: Option<u32>,
 }
 
 // What the store in hand is asked to do.
@@ -53,6 +77,8 @@ pub enum Missing {
     Link,
     End,
     Store,
+    Word,
+    Hub,
 }
 
 impl Missing {
@@ -66,6 +92,8 @@ impl Missing {
             Missing::Link => "a link is missing, written as 64-1-65",
             Missing::End => "too many words",
             Missing::Store => "no store",
+            Missing::Word => "a word is 8 hexadecimal digits in upper case",
+            Missing::Hub => "no hub",
         }
     }
 }

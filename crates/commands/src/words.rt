@@ -1,9 +1,10 @@
 ghost use mathlib.Core.Path.{_≡_};
-ghost use Prim.Native.Nat.{_≤_};
+ghost use Prim.Native.Nat.{_≤_, _<_};
 ghost use lib.ListN.{length};
 ghost use denote.Ref.{now as held};
 ghost use Rattle.std.specs.Options.{mapped};
-ghost use Rattle.commands.specs.Words.{after-word, blank, decimal, first-word, is-passed, run, with-digit, within};
+ghost use Rattle.std.specs.Slices.{found as Within};
+ghost use Rattle.commands.specs.Words.{after-word, blank, decimal, first-word, hex-digit, hex-word, is-passed, run, with-digit, with-hex-digit, within};
 ghost use Rattle.commands.specs.Parts.{before-dash, number-parts, link-from};
 use links::Link;
 
@@ -70,6 +71,44 @@ pub fn parse_number(word: &[u8]) -> Option<u32>
     let mut value = 0;
     for byte in word {
         let Some(next) = with_digit(value, *byte) else {
+            return None;
+        };
+        value = next;
+    }
+    Some(value)
+}
+
+fn hex_digit(byte: u8) -> Option<u32>
+    ensures value { λ r. ⌜ r ≡ hex-digit byte ⌝ }
+    ensures small { λ r. ⌜ Within r (λ d. d < 16) ⌝ }
+{
+    match byte {
+        b'0'..=b'9' => Some((byte - b'0') as u32),
+        b'A'..=b'F' => Some((byte - b'A') as u32 + 10),
+        _ => None,
+    }
+}
+
+// The number that a hexadecimal digit makes behind one already read.
+fn with_hex_digit(value: u32, byte: u8) -> Option<u32>
+    ensures { λ r. ⌜ r ≡ with-hex-digit value byte ⌝ }
+{
+    match hex_digit(byte) {
+        Some(digit) => Some(value % 0x1000_0000 * 16 + digit),
+        None => None,
+    }
+}
+
+// The word of 32 bits that the bytes write: 8 hexadecimal digits.
+pub fn parse_word(word: &[u8]) -> Option<u32>
+    ensures { λ r. ⌜ r ≡ hex-word (now (word .entry)) ⌝ }
+{
+    if word.len() != 8 {
+        return None;
+    }
+    let mut value = 0;
+    for byte in word {
+        let Some(next) = with_hex_digit(value, *byte) else {
             return None;
         };
         value = next;

@@ -1,6 +1,6 @@
 ghost use mathlib.Core.Path.{_≡_};
 ghost use Rattle.std.specs.declared.option.Option.the-variants.{None};
-ghost use Rattle.shell.specs.Answers.{Replied-wanted, Replied, Replied-alone};
+ghost use Rattle.shell.specs.Answers.{Replied, Replied-alone, Replied-wanted, hub-call-of};
 ghost use Rattle.commands.specs.Commands.{command-of};
 use crate::answer::Answer;
 use crate::answer::Refusal;
@@ -8,6 +8,7 @@ use crate::serving::Plan;
 use crate::serving::plan_for;
 use crate::serving::serve;
 use commands::Command;
+use commands::HubCall;
 use commands::Missing;
 use commands::Wanted;
 use commands::read_command;
@@ -39,18 +40,29 @@ fn reply_to_wanted(wanted: Wanted) -> Reply
     }
 }
 
-// The reply to a line while there is no store.
+// What a line asks of the hub, if it does.
+pub fn hub_call(line: &[u8]) -> Option<HubCall>
+    ensures { λ r. ⌜ r ≡ hub-call-of (command-of (now (line .entry))) ⌝ }
+{
+    match read_command(line) {
+        Ok(Command::Hub(call)) => Some(call),
+        _ => None,
+    }
+}
+
+// The reply to a line while there is no store and no hub.
 pub fn reply_alone(line: &[u8]) -> Reply
     ensures { λ r. ⌜ Replied-alone (command-of (now (line .entry))) r ⌝ }
 {
     match read_command(line) {
         Ok(Command::Make(wanted)) => reply_to_wanted(wanted),
         Ok(Command::Use(_)) => answered(Answer::Unknown(Missing::Store)),
+        Ok(Command::Hub(_)) => answered(Answer::Unknown(Missing::Hub)),
         Err(missing) => answered(Answer::Unknown(missing)),
     }
 }
 
-// The reply to a line with a store in hand.
+// The reply to a line with a store in hand and no hub.
 pub fn reply_with<S: Store>(store: &mut S, line: &[u8]) -> Reply
     ensures links { λ r. ⌜ Replied (S·Links .things (now (store .entry))) (S·Links .limit (now (store .entry))) (S·Links .links (now (store .entry))) (command-of (now (line .entry))) r (S·Links .links (now (store .exit))) ⌝ }
     ensures things { λ r. ⌜ S·Links .things (now (store .exit)) ≡ S·Links .things (now (store .entry)) ⌝ }
@@ -59,6 +71,7 @@ pub fn reply_with<S: Store>(store: &mut S, line: &[u8]) -> Reply
     match read_command(line) {
         Ok(Command::Make(wanted)) => reply_to_wanted(wanted),
         Ok(Command::Use(call)) => answered(serve(store, call)),
+        Ok(Command::Hub(_)) => answered(Answer::Unknown(Missing::Hub)),
         Err(missing) => answered(Answer::Unknown(missing)),
     }
 }

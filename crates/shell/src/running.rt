@@ -1,3 +1,5 @@
+use crate::commissioning::Desk;
+use crate::replying::hub_call;
 use crate::replying::reply_alone;
 use crate::replying::reply_with;
 use crate::serving::Plan;
@@ -5,6 +7,7 @@ use crate::session::Session;
 use bit_store::BitStore;
 use bit_store::BitStoreLinks;
 use bit_store::BitStoreStore;
+use commands::HubCall;
 use commands::Kind;
 use links::Link;
 use links::Sizes;
@@ -20,10 +23,17 @@ use std::io::BufWriter;
 use std::io::Write;
 
 // Serves lines until a store is made; none at the end of the input.
-fn play_alone<R: BufRead, W: Write>(session: &mut Session<R, W>) -> io::Result<Option<Plan>> {
+fn play_alone<R: BufRead, W: Write>(
+    session: &mut Session<R, W>,
+    desk: &mut Desk,
+) -> io::Result<Option<Plan>> {
     for _ in 0..u64::MAX {
         if !session.next_line()? {
             break;
+        }
+        if let Some(call) = hub_call(session.line()) {
+            desk.serve(session, call)?;
+            continue;
         }
         let reply = reply_alone(session.line());
         session.say(reply.answer)?;
@@ -34,14 +44,31 @@ fn play_alone<R: BufRead, W: Write>(session: &mut Session<R, W>) -> io::Result<O
     Ok(None)
 }
 
+fn serve_hub<S: Store, R: BufRead, W: Write>(
+    session: &mut Session<R, W>,
+    desk: &mut Desk,
+    store: &S,
+    call: HubCall,
+) -> io::Result<()> {
+    match call {
+        HubCall::Survey(wanted) => desk.survey(session, store, wanted),
+        _ => desk.serve(session, call),
+    }
+}
+
 // Serves lines with a store until another is made; none at the end of the input.
 fn play<S: Store + Drop, R: BufRead, W: Write>(
     session: &mut Session<R, W>,
+    desk: &mut Desk,
     mut store: S,
 ) -> io::Result<Option<Plan>> {
     for _ in 0..u64::MAX {
         if !session.next_line()? {
             break;
+        }
+        if let Some(call) = hub_call(session.line()) {
+            serve_hub(session, desk, &store, call)?;
+            continue;
         }
         let reply = reply_with(&mut store, session.line());
         session.say(reply.answer)?;
@@ -55,6 +82,7 @@ fn play<S: Store + Drop, R: BufRead, W: Write>(
 fn play_list<R: BufRead, W: Write>(
     heap: Global,
     session: &mut Session<R, W>,
+    desk: &mut Desk,
     sizes: Sizes,
 ) -> io::Result<Option<Plan>> {
     let unused = Link {
@@ -63,27 +91,29 @@ fn play_list<R: BufRead, W: Write>(
         target: 0,
     };
     let mut memory = vec![in heap; unused; sizes.limit()]?;
-    play(session, ListStore::new(sizes, memory.as_mut_slice()))
+    play(session, desk, ListStore::new(sizes, memory.as_mut_slice()))
 }
 
 fn play_bits<R: BufRead, W: Write>(
     heap: Global,
     session: &mut Session<R, W>,
+    desk: &mut Desk,
     sizes: Sizes,
 ) -> io::Result<Option<Plan>> {
     let mut words = vec![in heap; 0u32; BitStore::words_needed(sizes)]?;
-    play(session, BitStore::new(sizes, words.as_mut_slice()))
+    play(session, desk, BitStore::new(sizes, words.as_mut_slice()))
 }
 
 // Makes the store, over memory of its own, and serves lines with it.
 fn play_with<R: BufRead, W: Write>(
     heap: Global,
     session: &mut Session<R, W>,
+    desk: &mut Desk,
     plan: Plan,
 ) -> io::Result<Option<Plan>> {
     match plan.kind {
-        Kind::List => play_list(heap, session, plan.sizes),
-        Kind::Bits => play_bits(heap, session, plan.sizes),
+        Kind::List => play_list(heap, session, desk, plan.sizes),
+        Kind::Bits => play_bits(heap, session, desk, plan.sizes),
     }
 }
 
@@ -92,13 +122,14 @@ pub fn run(rt: &LibcRuntime) -> io::Result<()> {
     let input = BufReader::new(rt.stdin());
     let output = BufWriter::new(rt.stdout());
     let mut session = Session::new(input, output, Vec::new(rt.alloc()));
-    let mut next = play_alone(&mut session)?;
+    let mut desk = Desk::new(rt.alloc());
+    let mut next = play_alone(&mut session, &mut desk)?;
     // Nothing says that an input ends, so the stores are counted.
     for _ in 0..u64::MAX {
         let Some(plan) = next else {
             break;
         };
-        next = play_with(rt.alloc(), &mut session, plan)?;
+        next = play_with(rt.alloc(), &mut session, &mut desk, plan)?;
     }
     Ok(())
 }

@@ -67,4 +67,15 @@ impl<R: BufRead, W: Write> Session<R, W> {
         writeln!(self.output, "{answer}")?;
         self.output.flush()
     }
+
+    // Writes words that are given behind `taken`.
+    pub fn say_words(&mut self, words: &[u32]) -> io::Result<()> {
+        self.output.write_all(b"taken")?;
+        for word in words {
+            let word = *word;
+            write!(self.output, " {word:08X}")?;
+        }
+        self.output.write_all(b"\n")?;
+        self.output.flush()
+    }
 }

@@ -13,3 +13,6 @@ returns-in-Link c = ap missing-text (sym (c .in-Link .is))
 
 pub returns-in-End : need.returns-in-End
 returns-in-End c = ap missing-text (sym (c .in-End .is))
+
+pub returns-in-Word : need.returns-in-Word
+returns-in-Word c = ap missing-text (sym (c .in-Word .is))

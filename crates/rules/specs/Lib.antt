@@ -1,0 +1,12 @@
+pub mod Anchors
+pub mod Formed
+pub mod Handed
+pub mod Laws
+pub mod Marks
+pub mod Parts
+pub mod Reading
+pub mod Rules
+pub mod Runs
+pub mod Scan
+pub mod Sets
+pub mod Valid

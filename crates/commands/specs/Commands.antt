@@ -1,5 +1,5 @@
 -- The command that a line writes.
-use mathlib.Core.Bool.{Bool, cond}
+use mathlib.Core.Bool.{Bool, true, false, cond}
 use mathlib.Core.List.{List, [], _∷_}
 use Prim.Native.Nat.{ℕ}
 use lib.Chars.{codes}
@@ -15,7 +15,7 @@ use Rattle.links.specs.declared.link.Link.{Link}
 use Rattle.commands.specs.declared.command.Call.{Call}
 use Rattle.commands.specs.declared.command.Call.the-variants as call
 use Rattle.commands.specs.declared.command.Command.{Command}
-use Rattle.commands.specs.declared.command.Command.the-variants.{Make, Use, Hub}
+use Rattle.commands.specs.declared.command.Command.the-variants.{Make, Use, Settle, Hub}
 use Rattle.commands.specs.declared.command.HubCall.{HubCall}
 use Rattle.commands.specs.declared.command.HubCall.the-variants as hub-call
 use Rattle.commands.specs.declared.command.Kind.{Kind}
@@ -85,9 +85,13 @@ abbrev pub memory-in : List ℕ → Result (Option ℕ) Missing
 memory-in bs = cond (eqb (length (first-word bs)) 0) (Ok None) (then (number-in bs) (λ n. then (end-of (n .1)) (λ _. Ok (Some (n .0)))))
 
 -- the words of a wanted store: its kind, its sizes, and its memory or nothing
+abbrev pub store-in : Bool → List ℕ → Result Wanted Missing
+store-in held bs =
+    then (okOr (kind-of (first-word bs)) missing.Kind) (λ k. then (number-in (after-word bs)) (λ t. then (number-in (t .1)) (λ m. then (memory-in (m .1)) (λ s. Ok (record { held = held; kind = k; things = t .0; limit = m .0; memory = s })))))
+
+-- the same behind the word `held`, which asks for a layer that holds changes
 abbrev pub wanted-in : List ℕ → Result Wanted Missing
-wanted-in bs =
-    then (okOr (kind-of (first-word bs)) missing.Kind) (λ k. then (number-in (after-word bs)) (λ t. then (number-in (t .1)) (λ m. then (memory-in (m .1)) (λ s. Ok (record { kind = k; things = t .0; limit = m .0; memory = s })))))
+wanted-in bs = cond (sameBytes (first-word bs) (codes "held")) (store-in true (after-word bs)) (store-in false bs)
 
 -- three words, the numbers of a hub
 abbrev pub wanted-hub-in : List ℕ → Result WantedHub Missing
@@ -130,4 +134,7 @@ command-for None bs = use-of bs
 
 -- the command that a line writes, or why it writes none
 abbrev pub command-of : List ℕ → Result Command Missing
-command-of bs = cond (sameBytes (first-word bs) (codes "store")) (then (wanted-in (after-word bs)) (λ w. Ok (Make w))) (command-for (hub-verb-of (first-word bs)) bs)
+command-of bs =
+    cond (sameBytes (first-word bs) (codes "store"))
+    (then (wanted-in (after-word bs)) (λ w. Ok (Make w)))
+    (cond (sameBytes (first-word bs) (codes "settle")) (then (end-of (after-word bs)) (λ _. Ok Settle)) (command-for (hub-verb-of (first-word bs)) bs))

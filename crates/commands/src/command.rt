@@ -2,11 +2,12 @@ ghost use mathlib.Core.Path.{_≡_};
 ghost use Rattle.commands.specs.Texts.{missing-text};
 use links::Link;
 
-// A command asks for a store, uses the one in hand, or goes to the hub.
+// A command asks for a store, uses the one in hand, settles the changes that it holds, or goes to the hub.
 #[derive(Clone, Copy)]
 pub enum Command {
     Make(Wanted),
     Use(Call),
+    Settle,
     Hub(HubCall),
 }
 
@@ -59,9 +60,10 @@ pub enum Kind {
     Bits,
 }
 
-// A store that is asked for; `memory` counts its records or words, where the line tells them.
+// A store that is asked for, with a layer over it that holds changes or without; `memory` counts its records or words, where the line tells them.
 #[derive(Clone, Copy)]
 pub struct Wanted {
+    pub held: bool,
     pub kind: Kind,
     pub things: u32,
     pub limit: u32,
@@ -79,6 +81,7 @@ pub enum Missing {
     Store,
     Word,
     Hub,
+    Layer,
 }
 
 impl Missing {
@@ -94,6 +97,7 @@ impl Missing {
             Missing::Store => "no store",
             Missing::Word => "a word is 8 hexadecimal digits in upper case",
             Missing::Hub => "no hub",
+            Missing::Layer => "no layer that holds changes",
         }
     }
 }

@@ -1,6 +1,6 @@
 ghost use mathlib.Core.Path.{_≡_};
 ghost use Rattle.std.specs.shelf.Text.{sameBytes};
-ghost use Rattle.commands.specs.Commands.{call-in, command-of, end-of, hub-call-in, hub-verb-of, kind-of, link-in, memory-in, number-in, numbered, question-in, survey-in, verb-of, wanted-hub-in, wanted-in, write-in};
+ghost use Rattle.commands.specs.Commands.{call-in, command-of, end-of, hub-call-in, hub-verb-of, kind-of, link-in, memory-in, number-in, numbered, question-in, store-in, survey-in, verb-of, wanted-hub-in, wanted-in, write-in};
 use crate::command::Call;
 use crate::command::Command;
 use crate::command::HubCall;
@@ -151,8 +151,9 @@ fn read_memory(text: &[u8]) -> Result<Option<u32>, Missing>
     Ok(Some(memory.number))
 }
 
-fn read_wanted(text: &[u8]) -> Result<Wanted, Missing>
-    ensures { λ r. ⌜ r ≡ wanted-in (now (text .entry)) ⌝ }
+// The kind, the sizes and the memory of a wanted store.
+fn read_store(held: bool, text: &[u8]) -> Result<Wanted, Missing>
+    ensures { λ r. ⌜ r ≡ store-in held (now (text .entry)) ⌝ }
 {
     let cut = cut_word(text);
     let kind = kind_of(cut.word).ok_or(Missing::Kind)?;
@@ -160,11 +161,23 @@ fn read_wanted(text: &[u8]) -> Result<Wanted, Missing>
     let limit = read_number(things.rest)?;
     let memory = read_memory(limit.rest)?;
     Ok(Wanted {
+        held,
         kind,
         things: things.number,
         limit: limit.number,
         memory,
     })
+}
+
+fn read_wanted(text: &[u8]) -> Result<Wanted, Missing>
+    ensures { λ r. ⌜ r ≡ wanted-in (now (text .entry)) ⌝ }
+{
+    let cut = cut_word(text);
+    if is_same(cut.word, b"held") {
+        read_store(true, cut.rest)
+    } else {
+        read_store(false, text)
+    }
 }
 
 fn read_wanted_hub(text: &[u8]) -> Result<WantedHub, Missing>
@@ -238,6 +251,10 @@ pub fn read_command(line: &[u8]) -> Result<Command, Missing>
     let cut = cut_word(line);
     if is_same(cut.word, b"store") {
         return Ok(Command::Make(read_wanted(cut.rest)?));
+    }
+    if is_same(cut.word, b"settle") {
+        read_end(cut.rest)?;
+        return Ok(Command::Settle);
     }
     if let Some(verb) = hub_verb_of(cut.word) {
         return Ok(Command::Hub(read_hub_call(verb, cut.rest)?));

@@ -34,7 +34,7 @@ use Rattle.commands.specs.declared.command.HubCall.{HubCall}
 use Rattle.commands.specs.declared.command.Kind.{Kind}
 use Rattle.commands.specs.declared.command.Kind.the-variants.{List as InList, Bits as InBits}
 use Rattle.commands.specs.declared.command.Missing.{Missing}
-use Rattle.commands.specs.declared.command.Missing.the-variants.{Store, Hub as NoHub}
+use Rattle.commands.specs.declared.command.Missing.the-variants.{Store, Layer, Hub as NoHub}
 use Rattle.commands.specs.declared.command.Wanted.{Wanted}
 use Rattle.commands.specs.declared.command.WantedHub.{WantedHub}
 use Rattle.shell.specs.declared.replying.Reply.{Reply}
@@ -74,6 +74,7 @@ abbrev pub hub-call-of : Result Command Missing → Option HubCall
 hub-call-of (Ok (command.Hub c)) = Some c
 hub-call-of (Ok (command.Make w)) = None
 hub-call-of (Ok (command.Use c)) = None
+hub-call-of (Ok command.Settle) = None
 hub-call-of (Err m) = None
 
 -- What a call is answered by a store of so many things and links at most that holds the links, and which links it leaves.
@@ -100,9 +101,9 @@ places InBits things limit = words-for things
 abbrev pub Can-make : Wanted → Type 0
 Can-make w = In-range (w .things) (w .limit) × Enough (places (w .kind) (w .things) (w .limit)) (w .memory)
 
--- what a wanted store is answered: a plan of its kind and sizes, exactly when it can be made
+-- what a wanted store is answered: a plan of its layer, kind and sizes, exactly when it can be made
 abbrev pub Planned : Wanted → Result Plan MakeRefusal → Type 0
-Planned w (Ok p) = Can-make w × (p .kind ≡ w .kind) × (p .sizes .things ≡ w .things) × (p .sizes .limit ≡ w .limit)
+Planned w (Ok p) = Can-make w × (p .held ≡ w .held) × (p .kind ≡ w .kind) × (p .sizes .things ≡ w .things) × (p .sizes .limit ≡ w .limit)
 Planned w (Err e) = (Can-make w → ⊥) × (e ≡ OutOfRange)
 
 -- The reply to a wanted store: a plan and `taken`, or the refusal and no plan.
@@ -115,11 +116,22 @@ abbrev pub Replied-alone : Result Command Missing → Reply → Type 0
 Replied-alone (Ok (command.Make w)) r = Replied-wanted w (r .answer) (r .plan)
 Replied-alone (Ok (command.Use c)) r = (r .answer ≡ Unknown Store) × (r .plan ≡ None)
 Replied-alone (Ok (command.Hub c)) r = (r .answer ≡ Unknown NoHub) × (r .plan ≡ None)
+Replied-alone (Ok command.Settle) r = (r .answer ≡ Unknown Store) × (r .plan ≡ None)
 Replied-alone (Err m) r = (r .answer ≡ Unknown m) × (r .plan ≡ None)
 
--- The reply to a line with a store in hand, and the links that it leaves.
+-- The reply to a line with a store in hand that has no layer, and the links that it leaves.
 abbrev pub Replied : ℕ → ℕ → List Link → Result Command Missing → Reply → List Link → Type 0
 Replied things limit ls (Ok (command.Make w)) r after = Replied-wanted w (r .answer) (r .plan) × (after ≡ ls)
 Replied things limit ls (Ok (command.Use c)) r after = Served things limit ls c (r .answer) after × (r .plan ≡ None)
 Replied things limit ls (Ok (command.Hub c)) r after = (r .answer ≡ Unknown NoHub) × (r .plan ≡ None) × (after ≡ ls)
+Replied things limit ls (Ok command.Settle) r after = (r .answer ≡ Unknown Layer) × (r .plan ≡ None) × (after ≡ ls)
 Replied things limit ls (Err m) r after = (r .answer ≡ Unknown m) × (r .plan ≡ None) × (after ≡ ls)
+
+-- The reply to a line with a layer in hand that holds so many changes, the links that it leaves and how many changes are held then.
+-- Settling tells their number, leaves none, and leaves the set as it is where that is within its limit.
+abbrev pub Replied-held : ℕ → ℕ → List Link → ℕ → Result Command Missing → Reply → List Link → ℕ → Type 0
+Replied-held things limit ls held (Ok (command.Make w)) r after left = Replied-wanted w (r .answer) (r .plan) × (after ≡ ls) × (left ≡ held)
+Replied-held things limit ls held (Ok (command.Use c)) r after left = Served things limit ls c (r .answer) after × (r .plan ≡ None)
+Replied-held things limit ls held (Ok command.Settle) r after left = (r .answer ≡ Number held) × (r .plan ≡ None) × (left ≡ 0) × (length ls ≤ limit → after ≡ ls)
+Replied-held things limit ls held (Ok (command.Hub c)) r after left = (r .answer ≡ Unknown NoHub) × (r .plan ≡ None) × (after ≡ ls) × (left ≡ held)
+Replied-held things limit ls held (Err m) r after left = (r .answer ≡ Unknown m) × (r .plan ≡ None) × (after ≡ ls) × (left ≡ held)

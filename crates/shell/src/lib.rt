@@ -13,6 +13,7 @@ pub use replying::Reply;
 pub use replying::hub_call;
 pub use replying::reply_alone;
 pub use replying::reply_with;
+pub use replying::reply_with_layer;
 pub use running::run;
 pub use serving::Plan;
 pub use serving::plan_for;

@@ -2,6 +2,7 @@ use crate::commissioning::Desk;
 use crate::replying::hub_call;
 use crate::replying::reply_alone;
 use crate::replying::reply_with;
+use crate::replying::reply_with_layer;
 use crate::serving::Plan;
 use crate::session::Session;
 use bit_store::BitStore;
@@ -9,6 +10,8 @@ use bit_store::BitStoreLinks;
 use bit_store::BitStoreStore;
 use commands::HubCall;
 use commands::Kind;
+use held_store::HeldStore;
+use held_store::HeldStoreStore;
 use links::Link;
 use links::Sizes;
 use links::Store;
@@ -79,10 +82,49 @@ fn play<S: Store + Drop, R: BufRead, W: Write>(
     Ok(None)
 }
 
+// The same with a layer over the store that holds changes back.
+fn play_layer<S: Store + Drop, R: BufRead, W: Write>(
+    session: &mut Session<R, W>,
+    desk: &mut Desk,
+    store: S,
+) -> io::Result<Option<Plan>> {
+    let mut layer = HeldStore::new(store);
+    for _ in 0..u64::MAX {
+        if !session.next_line()? {
+            break;
+        }
+        if let Some(call) = hub_call(session.line()) {
+            serve_hub(session, desk, &layer, call)?;
+            continue;
+        }
+        let reply = reply_with_layer(&mut layer, session.line());
+        session.say(reply.answer)?;
+        if reply.plan.is_some() {
+            return Ok(reply.plan);
+        }
+    }
+    Ok(None)
+}
+
+// Serves lines with the store, or with a layer over it.
+fn play_either<S: Store + Drop, R: BufRead, W: Write>(
+    session: &mut Session<R, W>,
+    desk: &mut Desk,
+    held: bool,
+    store: S,
+) -> io::Result<Option<Plan>> {
+    if held {
+        play_layer(session, desk, store)
+    } else {
+        play(session, desk, store)
+    }
+}
+
 fn play_list<R: BufRead, W: Write>(
     heap: Global,
     session: &mut Session<R, W>,
     desk: &mut Desk,
+    held: bool,
     sizes: Sizes,
 ) -> io::Result<Option<Plan>> {
     let unused = Link {
@@ -91,17 +133,28 @@ fn play_list<R: BufRead, W: Write>(
         target: 0,
     };
     let mut memory = vec![in heap; unused; sizes.limit()]?;
-    play(session, desk, ListStore::new(sizes, memory.as_mut_slice()))
+    play_either(
+        session,
+        desk,
+        held,
+        ListStore::new(sizes, memory.as_mut_slice()),
+    )
 }
 
 fn play_bits<R: BufRead, W: Write>(
     heap: Global,
     session: &mut Session<R, W>,
     desk: &mut Desk,
+    held: bool,
     sizes: Sizes,
 ) -> io::Result<Option<Plan>> {
     let mut words = vec![in heap; 0u32; BitStore::words_needed(sizes)]?;
-    play(session, desk, BitStore::new(sizes, words.as_mut_slice()))
+    play_either(
+        session,
+        desk,
+        held,
+        BitStore::new(sizes, words.as_mut_slice()),
+    )
 }
 
 // Makes the store, over memory of its own, and serves lines with it.
@@ -112,8 +165,8 @@ fn play_with<R: BufRead, W: Write>(
     plan: Plan,
 ) -> io::Result<Option<Plan>> {
     match plan.kind {
-        Kind::List => play_list(heap, session, desk, plan.sizes),
-        Kind::Bits => play_bits(heap, session, desk, plan.sizes),
+        Kind::List => play_list(heap, session, desk, plan.held, plan.sizes),
+        Kind::Bits => play_bits(heap, session, desk, plan.held, plan.sizes),
     }
 }
 

@@ -13,9 +13,10 @@ use links::Store;
 use links::SwitchRefusal;
 use list_store::ListStore;
 
-// A store that can be made.
+// A store that can be made, with a layer over it that holds changes or without.
 #[derive(Clone, Copy)]
 pub struct Plan {
+    pub held: bool,
     pub kind: Kind,
     pub sizes: Sizes,
 }
@@ -39,6 +40,7 @@ pub fn plan_for(wanted: Wanted) -> Result<Plan, MakeRefusal>
     ensures { λ r. ⌜ Planned wanted r ⌝ }
 {
     Ok(Plan {
+        held: wanted.held,
         kind: wanted.kind,
         sizes: sizes_for(wanted)?,
     })

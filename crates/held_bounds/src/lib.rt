@@ -1,0 +1,3 @@
+// The layer over each store, and over a layer, through the same steps.
+#[cfg(test)]
+mod tests;

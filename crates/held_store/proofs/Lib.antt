@@ -1,0 +1,4 @@
+pub mod Changes
+pub mod Layers
+pub mod Rows
+pub mod Undone

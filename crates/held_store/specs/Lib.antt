@@ -1,0 +1,4 @@
+pub mod Items
+pub mod Layers
+pub mod Meaning
+pub mod Undoing

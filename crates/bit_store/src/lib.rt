@@ -1,4 +1,6 @@
 // A store that keeps one bit for each possible link.
+#![tactic(auto)]
+
 mod store;
 
 pub use store::BitStore;

@@ -1,4 +1,6 @@
 // The command that a line writes.
+#![tactic(auto)]
+
 mod command;
 mod reading;
 mod words;

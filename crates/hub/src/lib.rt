@@ -1,4 +1,6 @@
 // The hub, as far as it is commissioned: its plate, its limits and its rule set.
+#![tactic(auto)]
+
 mod commissioning;
 mod refusals;
 

@@ -50,7 +50,7 @@ pub fn next<L: Links>(
     label: u32,
     from: u32,
 ) -> Option<u32>
-    ensures { Least (λ t. member (link_with direction node label t) (links base.now)) from result }
+    ensures { Least (λ t. member (link_with direction node label t) (L.links base.now)) from result }
 {
     match direction {
         Direction::Outgoing => base.next_target(node, label, from),

@@ -1,4 +1,6 @@
 // Sets of links after an edit: what they answer, without carrying the edit out, and its carrying out.
+#![tactic(auto)]
+
 mod carrying;
 mod direction;
 mod edit;

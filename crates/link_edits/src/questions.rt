@@ -11,7 +11,7 @@ use crate::edit::{Edit, contains, is_same};
 use links::{Link, Links, Sizes};
 
 pub fn is_on_after<L: Links>(base: &L, edit: &Edit, link: Link) -> bool
-    ensures { result ≡ member link (edited (things base.now) edit.now.off.now edit.now.on.now (links base.now)) }
+    ensures { result ≡ member link (edited (L.things base.now) edit.now.off.now edit.now.on.now (L.links base.now)) }
 {
     if edit.puts_on(base.sizes(), link) {
         return true;
@@ -77,7 +77,7 @@ fn next_kept<L: Links>(
     label: u32,
     from: u32,
 ) -> Option<u32>
-    ensures { Least (λ t. not (member (link_with direction node label t) off.now) && member (link_with direction node label t) (links base.now)) from result }
+    ensures { Least (λ t. not (member (link_with direction node label t) off.now) && member (link_with direction node label t) (L.links base.now)) from result }
 {
     let mut at = from;
     while let Some(other) = next(base, direction, node, label, at) {
@@ -98,7 +98,7 @@ pub fn next_after<L: Links>(
     label: u32,
     from: u32,
 ) -> Option<u32>
-    ensures { Least (λ t. member (link_with direction node label t) (edited (things base.now) edit.now.off.now edit.now.on.now (links base.now))) from result }
+    ensures { Least (λ t. member (link_with direction node label t) (edited (L.things base.now) edit.now.off.now edit.now.on.now (L.links base.now))) from result }
 {
     let added = next_added(base.sizes(), edit.on, direction, node, label, from);
     let kept = next_kept(base, edit.off, direction, node, label, from);
@@ -113,7 +113,7 @@ fn one_if(test: bool) -> usize
 
 // The number of links of the base when these are off; a link told twice counts once.
 fn count_kept<L: Links>(base: &L, off: &[Link]) -> usize
-    ensures { result ≡ length (without_all off.now (links base.now)) }
+    ensures { result ≡ length (without_all off.now (L.links base.now)) }
 {
     let mut count = base.link_count();
     for i in 0..off.len() {
@@ -128,13 +128,13 @@ fn count_kept<L: Links>(base: &L, off: &[Link]) -> usize
 
 // Whether switching the link on after the edit gives a link more.
 fn is_new_after<L: Links>(base: &L, edit: &Edit, link: Link) -> bool
-    ensures { result ≡ (inside (things base.now) link && not (member link (edited (things base.now) edit.now.off.now edit.now.on.now (links base.now)))) }
+    ensures { result ≡ (inside (L.things base.now) link && not (member link (edited (L.things base.now) edit.now.off.now edit.now.on.now (L.links base.now)))) }
 {
     base.sizes().contain(link) && !is_on_after(base, edit, link)
 }
 
 pub fn count_after<L: Links>(base: &L, edit: &Edit) -> usize
-    ensures { result ≡ length (edited (things base.now) edit.now.off.now edit.now.on.now (links base.now)) }
+    ensures { result ≡ length (edited (L.things base.now) edit.now.off.now edit.now.on.now (L.links base.now)) }
 {
     let off = edit.off;
     let on = edit.on;
@@ -148,7 +148,7 @@ pub fn count_after<L: Links>(base: &L, edit: &Edit) -> usize
 
 // Whether some link begins or ends at the thing after the edit.
 fn is_touched_after<L: Links>(base: &L, edit: &Edit, thing: u32) -> bool
-    ensures { result ≡ touched thing (edited (things base.now) edit.now.off.now edit.now.on.now (links base.now)) }
+    ensures { result ≡ touched thing (edited (L.things base.now) edit.now.off.now edit.now.on.now (L.links base.now)) }
 {
     for label in 0..16 {
         if let Some(_) = next_after(base, edit, Direction::Outgoing, thing, label, 0) {
@@ -163,7 +163,7 @@ fn is_touched_after<L: Links>(base: &L, edit: &Edit, thing: u32) -> bool
 
 // Some thing that no link touches after the edit.
 pub fn spare_after<L: Links>(base: &L, edit: &Edit) -> Option<u32>
-    ensures { Spare (things base.now) (edited (things base.now) edit.now.off.now edit.now.on.now (links base.now)) result }
+    ensures { Spare (L.things base.now) (edited (L.things base.now) edit.now.off.now edit.now.on.now (L.links base.now)) result }
 {
     for thing in 64..64 + base.sizes().things() {
         if !is_touched_after(base, edit, thing) {

@@ -1,4 +1,6 @@
 // Links of the graph, what a store of them means, and what it answers.
+#![tactic(auto)]
+
 mod link;
 mod make_refusal;
 mod sizes;

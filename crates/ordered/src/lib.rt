@@ -1,4 +1,6 @@
 // Records in the order of their keys, in memory that the caller lends.
+#![tactic(auto)]
+
 mod keyed;
 mod list;
 mod refusal;

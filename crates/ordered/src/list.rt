@@ -56,7 +56,7 @@ impl<'a, R: Keyed> OrderedList<'a, R> {
     // How many records come before x: the place of the first that does not.
     pub fn lower_bound(&self, x: &R) -> usize
         ensures bound { result ≤ length (items self.now) }
-        ensures ranked { ascending before (items self.now) ≡ true → result ≡ rank before x.now (items self.now) }
+        ensures ranked { ascending R.before (items self.now) ≡ true → result ≡ rank R.before x.now (items self.now) }
     {
         position(self.as_slice(), x)
     }
@@ -64,14 +64,14 @@ impl<'a, R: Keyed> OrderedList<'a, R> {
     // The place of the record with x's key, or else the place where x would stand.
     pub fn binary_search(&self, x: &R) -> Result<usize, usize>
         ensures bound { MatchResult result (λ at. at < length (items self.now)) (λ at. at ≤ length (items self.now)) }
-        ensures sought { ascending before (items self.now) ≡ true → Sought before x.now (items self.now) result }
+        ensures sought { ascending R.before (items self.now) ≡ true → Sought R.before x.now (items self.now) result }
     {
         search_in(self.as_slice(), x)
     }
 
     // The record with x's key.
     pub fn find(&self, x: &R) -> Option<R>
-        ensures { ascending before (items self.now) ≡ true → result ≡ lookup before x.now (items self.now) }
+        ensures { ascending R.before (items self.now) ≡ true → result ≡ lookup R.before x.now (items self.now) }
     {
         match self.binary_search(x) {
             Ok(at) => self.get(at),
@@ -81,8 +81,8 @@ impl<'a, R: Keyed> OrderedList<'a, R> {
 
     pub fn insert(&mut self, x: R) -> Result<(), InsertRefusal>
         ensures capacity { capacity self.new ≡ capacity self.old }
-        ensures inserted { ascending before (items self.old) ≡ true → Inserted before (capacity self.old) x (items self.old) result (items self.new) }
-        ensures rises { ascending before (items self.old) ≡ true → ascending before (items self.new) ≡ true }
+        ensures inserted { ascending R.before (items self.old) ≡ true → Inserted R.before (capacity self.old) x (items self.old) result (items self.new) }
+        ensures rises { ascending R.before (items self.old) ≡ true → ascending R.before (items self.new) ≡ true }
     {
         match self.binary_search(&x) {
             Ok(_) => Err(InsertRefusal::AlreadyThere),
@@ -101,9 +101,9 @@ impl<'a, R: Keyed> OrderedList<'a, R> {
     // Takes the record with x's key out, and answers it.
     pub fn remove(&mut self, x: &R) -> Option<R>
         ensures capacity { capacity self.new ≡ capacity self.old }
-        ensures answer { ascending before (items self.old) ≡ true → result ≡ lookup before x.now (items self.old) }
-        ensures removed { ascending before (items self.old) ≡ true → items self.new ≡ without before x.now (items self.old) }
-        ensures rises { ascending before (items self.old) ≡ true → ascending before (items self.new) ≡ true }
+        ensures answer { ascending R.before (items self.old) ≡ true → result ≡ lookup R.before x.now (items self.old) }
+        ensures removed { ascending R.before (items self.old) ≡ true → items self.new ≡ without R.before x.now (items self.old) }
+        ensures rises { ascending R.before (items self.old) ≡ true → ascending R.before (items self.new) ≡ true }
     {
         match self.binary_search(x) {
             Ok(at) => {
@@ -121,7 +121,7 @@ impl<'a, R: Keyed> OrderedList<'a, R> {
 // How many records of a rising slice come before x.
 fn position<R: Keyed>(records: &[R], x: &R) -> usize
     ensures bound { result ≤ length records.now }
-    ensures ranked { ascending before records.now ≡ true → result ≡ rank before x.now records.now }
+    ensures ranked { ascending R.before records.now ≡ true → result ≡ rank R.before x.now records.now }
 {
     let mut low = 0;
     let mut high = records.len();
@@ -138,7 +138,7 @@ fn position<R: Keyed>(records: &[R], x: &R) -> usize
 
 fn search_in<R: Keyed>(records: &[R], x: &R) -> Result<usize, usize>
     ensures bound { MatchResult result (λ at. at < length records.now) (λ at. at ≤ length records.now) }
-    ensures sought { ascending before records.now ≡ true → Sought before x.now records.now result }
+    ensures sought { ascending R.before records.now ≡ true → Sought R.before x.now records.now result }
 {
     let at = position(records, x);
     if at == records.len() {
@@ -173,8 +173,8 @@ fn remove_at<R>(records: &mut [R], at: usize, len: usize)
 // Two rising lists with the same record at each key are equal; where the key is the whole record,
 // so are two rising lists with the same members.
 pub fn lists_are_determined<R: Keyed>() -> u8
-    ensures lookups { (xs ys : List R) → ascending before xs ≡ true → ascending before ys ≡ true → ((x : R) → lookup before x xs ≡ lookup before x ys) → xs ≡ ys }
-    ensures members { Exact before → (xs ys : List R) → ascending before xs ≡ true → ascending before ys ≡ true → ((x : R) → has before x xs ≡ has before x ys) → xs ≡ ys }
+    ensures lookups { (xs ys : List R) → ascending R.before xs ≡ true → ascending R.before ys ≡ true → ((x : R) → lookup R.before x xs ≡ lookup R.before x ys) → xs ≡ ys }
+    ensures members { Exact R.before → (xs ys : List R) → ascending R.before xs ≡ true → ascending R.before ys ≡ true → ((x : R) → has R.before x xs ≡ has R.before x ys) → xs ≡ ys }
 {
     0
 }

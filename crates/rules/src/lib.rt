@@ -1,4 +1,6 @@
 // Rule sets: reading them, and each part of them as a run of the given words.
+#![tactic(auto)]
+
 mod anchors;
 mod bans;
 mod checking;

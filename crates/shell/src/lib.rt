@@ -1,4 +1,6 @@
 // The console: lines are read, the libraries called, the answers written.
+#![tactic(auto)]
+
 mod answer;
 mod commissioning;
 mod replying;

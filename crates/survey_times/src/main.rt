@@ -1,4 +1,6 @@
 // How long a survey takes: a block of 120 meters, two rules, in each of the stores.
+#![tactic(auto)]
+
 mod block;
 
 use bit_store::BitStore;

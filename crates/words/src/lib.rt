@@ -1,4 +1,6 @@
 // Rule words: what one word says, which word may follow, and the faults of a reading.
+#![tactic(auto)]
+
 mod faults;
 mod items;
 mod stages;

@@ -4,13 +4,13 @@ use Rattle.commands.proofs.Digits.{full}
 use Rattle.commands.proofs.Steps.{one_more, at_fault, at_end}
 use Rattle.commands.proofs.words.parse_number.Goals as goal
 
-pub returns-in-default : goal.returns-in-default
-returns-in-default c =
-    at_fault with_digit _ _ _ c.loop-byte.invariant c.loop-byte-test.true c.in-default.ensures ∙ full c.args.word.now (omega (arith, false-eqb _ 0 c.if-is-empty.ensures))
+pub returns-in_default : goal.returns-in_default
+returns-in_default c =
+    at_fault with_digit _ _ _ c.loop-byte.invariant c.loop-byte-test.true c.in_default.ensures ∙ full c.args.word.now (omega (arith, false-eqb _ 0 c.if-is_empty.ensures))
 
 pub loop-byte-preserved : goal.loop-byte-preserved
 loop-byte-preserved c = one_more with_digit _ _ _ c.loop-byte.invariant _ c.loop-byte-test.true c.in-Some.ensures
 
 pub returns : goal.returns
 returns c =
-    at_end with_digit _ _ _ c.loop-byte.invariant c.loop-byte-test.false ∙ full c.args.word.now (omega (arith, false-eqb _ 0 c.if-is-empty.ensures))
+    at_end with_digit _ _ _ c.loop-byte.invariant c.loop-byte-test.false ∙ full c.args.word.now (omega (arith, false-eqb _ 0 c.if-is_empty.ensures))

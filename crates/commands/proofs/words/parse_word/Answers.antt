@@ -7,8 +7,8 @@ use Rattle.commands.proofs.words.parse_word.Goals as goal
 of_eight : (bs : List ℕ) → length bs ≡ 8 → read_from with_hex_digit (Some 0) bs ≡ hex_word bs
 of_eight bs e = sym (cond-true _ _ _ (ap (λ n. eqb n 8) e))
 
-pub returns-in-default : goal.returns-in-default
-returns-in-default c = at_fault with_hex_digit _ _ _ c.loop-byte.invariant c.loop-byte-test.true c.in-default.ensures ∙ of_eight _ c.if-word-ne8.false
+pub returns-in_default : goal.returns-in_default
+returns-in_default c = at_fault with_hex_digit _ _ _ c.loop-byte.invariant c.loop-byte-test.true c.in_default.ensures ∙ of_eight _ c.if-word-ne8.false
 
 pub loop-byte-preserved : goal.loop-byte-preserved
 loop-byte-preserved c = one_more with_hex_digit _ _ _ c.loop-byte.invariant _ c.loop-byte-test.true c.in-Some.ensures

@@ -6,13 +6,13 @@ use Rattle.link_edits.proofs.Edits.{count_on, rising_edited, inside_edited}
 use Rattle.link_edits.proofs.Small.{small}
 use Rattle.link_edits.proofs.questions.count_after.Goals as goal
 
-pub overflow-add-count : goal.overflow-add-count
-overflow-add-count g c =
+pub overflow_add-count : goal.overflow_add-count
+overflow_add-count g c =
     let b = c.args.base.now in
     let e = c.args.edit.now in
     let n = g.L.Links.things b in
     let on = take (c.loop-i.i + 1) e.on.now in
-    let more = count_on n e.on.now c.loop-i.i (link_of 0 0 0) (without_all e.off.now (g.L.Links.links b)) c.loop-i.count c.one-if-count.result c.is-new-after.result (omega arith) c.loop-i.invariant c.is-new-after.ensures c.one-if-count.ensures in
+    let more = count_on n e.on.now c.loop-i.i (link_of 0 0 0) (without_all e.off.now (g.L.Links.links b)) c.loop-i.count c.one_if-count.result c.is_new_after.result (omega arith) c.loop-i.invariant c.is_new_after.ensures c.one_if-count.ensures in
     let few = small n (edited n e.off.now on (g.L.Links.links b)) (rising_edited n e.off.now on (g.L.Links.links b) (g.L.Links.lawful.rises b)) (inside_edited n e.off.now on (g.L.Links.links b) (g.L.Links.lawful.all_in b)) (g.L.Links.lawful.in_range b).1 in
     omega arith
 
@@ -20,7 +20,7 @@ pub loop-i-preserved : goal.loop-i-preserved
 loop-i-preserved g c =
     let b = c.args.base.now in
     let e = c.args.edit.now in
-    count_on (g.L.Links.things b) e.on.now c.loop-i.i (link_of 0 0 0) (without_all e.off.now (g.L.Links.links b)) c.loop-i.count c.one-if-count.result c.is-new-after.result (omega arith) c.loop-i.invariant c.is-new-after.ensures c.one-if-count.ensures
+    count_on (g.L.Links.things b) e.on.now c.loop-i.i (link_of 0 0 0) (without_all e.off.now (g.L.Links.links b)) c.loop-i.count c.one_if-count.result c.is_new_after.result (omega arith) c.loop-i.invariant c.is_new_after.ensures c.one_if-count.ensures
 
 pub returns : goal.returns
 returns g c =

@@ -12,18 +12,18 @@ returns-in-Some g c =
     let e = c.args.edit.now in
     sym (touched_source c.args.thing c.loop-label.label c.in-Some.field-0 (edited (g.L.Links.things b) e.off.now e.on.now (g.L.Links.links b)) c.in-Some.ensures.1)
 
-pub returns-in-Some-next-after : goal.returns-in-Some-next-after
-returns-in-Some-next-after g c =
+pub returns-in-Some-next_after : goal.returns-in-Some-next_after
+returns-in-Some-next_after g c =
     let b = c.args.base.now in
     let e = c.args.edit.now in
-    sym (touched_target c.args.thing c.loop-label.label c.in-Some-next-after.field-0 (edited (g.L.Links.things b) e.off.now e.on.now (g.L.Links.links b)) c.in-Some-next-after.ensures.1)
+    sym (touched_target c.args.thing c.loop-label.label c.in-Some-next_after.field-0 (edited (g.L.Links.things b) e.off.now e.on.now (g.L.Links.links b)) c.in-Some-next_after.ensures.1)
 
 pub loop-label-preserved : goal.loop-label-preserved
 loop-label-preserved g c b x h =
     let t = c.args.thing in
     let ls = edited (g.L.Links.things c.args.base.now) c.args.edit.now.off.now c.args.edit.now.on.now (g.L.Links.links c.args.base.now) in
     ⊎_elim
-    (λ e. (ap (λ (v : ℕ). member (link_of t v x) ls) e ∙ c.in-default.ensures x (omega arith), ap (λ (v : ℕ). member (link_of x v t) ls) e ∙ c.in-default-next-after.ensures x (omega arith)))
+    (λ e. (ap (λ (v : ℕ). member (link_of t v x) ls) e ∙ c.in_default.ensures x (omega arith), ap (λ (v : ℕ). member (link_of x v t) ls) e ∙ c.in_default-next_after.ensures x (omega arith)))
     (λ ne. c.loop-label.invariant b x (omega arith))
     (cases_eq b c.loop-label.label)
 

@@ -9,8 +9,8 @@ use Rattle.link_edits.proofs.questions.next_added.Goals as goal
 pub loop-link-preserved : goal.loop-link-preserved
 loop-link-preserved c =
     subst (λ v. Least (λ t. inside c.args.sizes.things (link_with c.args.direction c.args.node c.args.label t) && member (link_with c.args.direction c.args.node c.args.label t) (take (c.loop-link.link-index + 1) c.args.on.now)) c.args.from v)
-    (sym c.smaller-of-best.ensures)
-    (added_more c.args.sizes.things c.args.on.now c.loop-link.link-index (link_of 0 0 0) c.args.direction c.args.node c.args.label c.args.from c.loop-link.best c.next-of-one.result c.loop-link-test.true c.loop-link.invariant c.next-of-one.ensures)
+    (sym c.smaller_of-best.ensures)
+    (added_more c.args.sizes.things c.args.on.now c.loop-link.link-index (link_of 0 0 0) c.args.direction c.args.node c.args.label c.args.from c.loop-link.best c.next_of_one.result c.loop-link-test.true c.loop-link.invariant c.next_of_one.ensures)
 
 pub returns : goal.returns
 returns c =

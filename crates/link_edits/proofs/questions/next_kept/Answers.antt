@@ -2,8 +2,8 @@ use Rattle.std.proofs.Common.{arith}
 use Rattle.link_edits.proofs.Edits.{other_small}
 use Rattle.link_edits.proofs.questions.next_kept.Goals as goal
 
-pub overflow-add-at : goal.overflow-add-at
-overflow-add-at g c =
+pub overflow_add-at : goal.overflow_add-at
+overflow_add-at g c =
     let b = c.args.base.now in
     let small = other_small (g.L.Links.things b) (g.L.Links.links b) c.args.direction c.args.node c.args.label c.in-Some.other (g.L.Links.lawful.all_in b) c.in-Some.ensures.1 in
     let ranges = g.L.Links.lawful.in_range b in

@@ -6,18 +6,18 @@ use Rattle.link_edits.proofs.Loops.{Gives, one_below, one_outside, one_other, on
 use Rattle.link_edits.proofs.questions.next_of_one.Goals as goal
 
 pub returns-then-other-from : goal.returns-then-other-from
-returns-then-other-from c = one_below c.args.sizes.things c.args.direction c.args.node c.args.label c.args.from c.args.link (omega (arith, c.other-end-other.ensures))
+returns-then-other-from c = one_below c.args.sizes.things c.args.direction c.args.node c.args.label c.args.from c.args.link (omega (arith, c.other_end-other.ensures))
 
 pub returns-then-not-contain : goal.returns-then-not-contain
 returns-then-not-contain c = one_outside c.args.sizes.things c.args.direction c.args.node c.args.label c.args.from c.args.link (sym c.if-not-contain.ensures)
 
-pub returns-else-is-same : goal.returns-else-is-same
-returns-else-is-same c =
+pub returns-else-is_same : goal.returns-else-is_same
+returns-else-is_same c =
     one_other c.args.sizes.things c.args.direction c.args.node c.args.label c.args.from c.args.link
-    (ap (λ (v : ℕ). same link_before c.args.link (link_with c.args.direction c.args.node c.args.label v)) (sym c.other-end-other.ensures) ∙ ap (same link_before c.args.link) (sym c.link_with.ensures) ∙ sym c.if-is-same.ensures)
+    (ap (λ (v : ℕ). same link_before c.args.link (link_with c.args.direction c.args.node c.args.label v)) (sym c.other_end-other.ensures) ∙ ap (same link_before c.args.link) (sym c.link_with.ensures) ∙ sym c.if-is_same.ensures)
 
-pub returns-then-is-same : goal.returns-then-is-same
-returns-then-is-same c =
-    subst (λ (v : ℕ). Gives c.args.sizes.things c.args.direction c.args.node c.args.label c.args.from c.args.link (Some v)) (sym c.other-end-other.ensures)
-    (one_found c.args.sizes.things c.args.direction c.args.node c.args.label c.args.from c.args.link (omega (arith, c.other-end-other.ensures)) (sym c.if-not-contain.ensures)
-    (ap (λ (v : ℕ). same link_before c.args.link (link_with c.args.direction c.args.node c.args.label v)) (sym c.other-end-other.ensures) ∙ ap (same link_before c.args.link) (sym c.link_with.ensures) ∙ sym c.if-is-same.ensures))
+pub returns-then-is_same : goal.returns-then-is_same
+returns-then-is_same c =
+    subst (λ (v : ℕ). Gives c.args.sizes.things c.args.direction c.args.node c.args.label c.args.from c.args.link (Some v)) (sym c.other_end-other.ensures)
+    (one_found c.args.sizes.things c.args.direction c.args.node c.args.label c.args.from c.args.link (omega (arith, c.other_end-other.ensures)) (sym c.if-not-contain.ensures)
+    (ap (λ (v : ℕ). same link_before c.args.link (link_with c.args.direction c.args.node c.args.label v)) (sym c.other_end-other.ensures) ∙ ap (same link_before c.args.link) (sym c.link_with.ensures) ∙ sym c.if-is_same.ensures))

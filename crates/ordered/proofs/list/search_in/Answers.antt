@@ -8,14 +8,14 @@ returns-then-at-records g c = record {
   sought = λ h. let q = c.position-at.ensures.ranked h in (has_past g.R.Keyed.before c.args.x.now c.args.records.now (sym q ∙ c.if-at-records.true), q);
 }
 
-pub returns-then-comes-before : goal.returns-then-comes-before
-returns-then-comes-before g c = record {
+pub returns-then-comes_before : goal.returns-then-comes_before
+returns-then-comes_before g c = record {
   bound = omega arith;
-  sought = λ h. let q = c.position-at.ensures.ranked h in (found_at g.R.Keyed.before g.met.R.Keyed.order c.args.x.now _ c.args.records.now _ _ h q (omega arith) c.index-records-at.is c.if-comes-before.ensures, q);
+  sought = λ h. let q = c.position-at.ensures.ranked h in (found_at g.R.Keyed.before g.met.R.Keyed.order c.args.x.now _ c.args.records.now _ _ h q (omega arith) c.index-records-at.is c.if-comes_before.ensures, q);
 }
 
-pub returns-else-comes-before : goal.returns-else-comes-before
-returns-else-comes-before g c = record {
+pub returns-else-comes_before : goal.returns-else-comes_before
+returns-else-comes_before g c = record {
   bound = omega arith;
-  sought = λ h. let q = c.position-at.ensures.ranked h in (found_at g.R.Keyed.before g.met.R.Keyed.order c.args.x.now _ c.args.records.now _ _ h q (omega arith) c.index-records-at.is c.if-comes-before.ensures, q);
+  sought = λ h. let q = c.position-at.ensures.ranked h in (found_at g.R.Keyed.before g.met.R.Keyed.order c.args.x.now _ c.args.records.now _ _ h q (omega arith) c.index-records-at.is c.if-comes_before.ensures, q);
 }

@@ -4,11 +4,11 @@ use Rattle.rules.specs.Anchors.{some, is_shared}
 use Rattle.rules.proofs.Marking.{some_here, some_on, some_none}
 use Rattle.rules.proofs.anchors.shares_any.Goals as goal
 
-pub returns-then-is-share : goal.returns-then-is-share
-returns-then-is-share c = some_here is_shared share_of c.args.shares.now c.loop-word.word-index (omega arith) (sym c.if-is-share.ensures) c.loop-word.invariant
+pub returns-then-is_share : goal.returns-then-is_share
+returns-then-is_share c = some_here is_shared share_of c.args.shares.now c.loop-word.word-index (omega arith) (sym c.if-is_share.ensures) c.loop-word.invariant
 
 pub loop-word-preserved : goal.loop-word-preserved
-loop-word-preserved c = some_on is_shared share_of c.args.shares.now c.loop-word.word-index (omega arith) (sym c.if-is-share.ensures) c.loop-word.invariant
+loop-word-preserved c = some_on is_shared share_of c.args.shares.now c.loop-word.word-index (omega arith) (sym c.if-is_share.ensures) c.loop-word.invariant
 
 pub returns : goal.returns
 returns c = some_none is_shared share_of c.args.shares.now c.loop-word.word-index (omega arith) c.loop-word.invariant

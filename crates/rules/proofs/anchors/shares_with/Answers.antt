@@ -4,11 +4,11 @@ use Rattle.rules.specs.Anchors.{some, shares_with}
 use Rattle.rules.proofs.Marking.{some_here, some_on, some_none}
 use Rattle.rules.proofs.anchors.shares_with.Goals as goal
 
-pub returns-then-is-share-of : goal.returns-then-is-share-of
-returns-then-is-share-of c = some_here (shares_with c.args.v) share_of c.args.shares.now c.loop-word.word-index (omega arith) (sym c.if-is-share-of.ensures) c.loop-word.invariant
+pub returns-then-is_share_of : goal.returns-then-is_share_of
+returns-then-is_share_of c = some_here (shares_with c.args.v) share_of c.args.shares.now c.loop-word.word-index (omega arith) (sym c.if-is_share_of.ensures) c.loop-word.invariant
 
 pub loop-word-preserved : goal.loop-word-preserved
-loop-word-preserved c = some_on (shares_with c.args.v) share_of c.args.shares.now c.loop-word.word-index (omega arith) (sym c.if-is-share-of.ensures) c.loop-word.invariant
+loop-word-preserved c = some_on (shares_with c.args.v) share_of c.args.shares.now c.loop-word.word-index (omega arith) (sym c.if-is_share_of.ensures) c.loop-word.invariant
 
 pub returns : goal.returns
 returns c = some_none (shares_with c.args.v) share_of c.args.shares.now c.loop-word.word-index (omega arith) c.loop-word.invariant

@@ -5,11 +5,11 @@ use Rattle.rules.proofs.checking.bans_fault.Goals as goal
 pub loop-i-init : goal.loop-i-init
 loop-i-init c = λ r h. bans_first (c.args.rule.place + 1 + length r.needs) r.bans
 
-pub returns-in-default : goal.returns-in-default
-returns-in-default c = λ r h. bans_end r.variables (c.args.rule.place + 1 + length r.needs) r.bans c.loop-i.i (c.loop-i.invariant r h) (c.in-default.ensures r h)
+pub returns-in_default : goal.returns-in_default
+returns-in_default c = λ r h. bans_end r.variables (c.args.rule.place + 1 + length r.needs) r.bans c.loop-i.i (c.loop-i.invariant r h) (c.in_default.ensures r h)
 
-pub returns-in-Some-ban-fault : goal.returns-in-Some-ban-fault
-returns-in-Some-ban-fault c = λ r h. bans_hit r.variables (c.args.rule.place + 1 + length r.needs) r.bans c.loop-i.i (c.loop-i.invariant r h) c.in-Some.ban (Some c.in-Some-ban-fault.found) c.in-Some-ban-fault.ensures c.in-Some-ban-fault.found (c.in-Some.ensures r h) refl
+pub returns-in-Some-ban_fault : goal.returns-in-Some-ban_fault
+returns-in-Some-ban_fault c = λ r h. bans_hit r.variables (c.args.rule.place + 1 + length r.needs) r.bans c.loop-i.i (c.loop-i.invariant r h) c.in-Some.ban (Some c.in-Some-ban_fault.found) c.in-Some-ban_fault.ensures c.in-Some-ban_fault.found (c.in-Some.ensures r h) refl
 
 pub loop-i-preserved : goal.loop-i-preserved
 loop-i-preserved c = λ r h. bans_miss r.variables (c.args.rule.place + 1 + length r.needs) r.bans c.loop-i.i (c.loop-i.invariant r h) c.in-Some.ban None c.in-None.ensures (c.in-Some.ensures r h) refl

@@ -7,6 +7,6 @@ loop-init c = (let z = c.min-at.ensures in omega arith, λ r f e. part_first c.a
 
 pub loop-preserved : goal.loop-preserved
 loop-preserved c = (
-  c.part-end-at.ensures.within.1,
-  λ r f e. part_more c.args.words.now r f c.loop.counter c.loop.at (c.loop.invariant.1 r f e) c.part-end-at.result c.part-end-at.ensures.end,
+  c.part_end-at.ensures.within.1,
+  λ r f e. part_more c.args.words.now r f c.loop.counter c.loop.at (c.loop.invariant.1 r f e) c.part_end-at.result c.part_end-at.ensures.end,
 )

@@ -24,8 +24,8 @@ loop-at-preserved c =
 pub returns-in-Outside : goal.returns-in-Outside
 returns-in-Outside c = let k = c.loop-at.invariant.0 in at_out c.args.words.now c.loop-at.at c.loop-at.state k.0 k.1 c.loop-at-test.false c.in-Outside.is
 
-pub returns-in-default : goal.returns-in-default
-returns-in-default c =
+pub returns-in_default : goal.returns-in_default
+returns-in_default c =
     let k = c.loop-at.invariant.0 in
     let q : c.loop-at.at ≡ length c.args.words.now = omega arith in
-    ap (λ z. Err (record { place = z; rule = c.loop-at.state.rules; cause = InRule OutOfPlace })) (sym q) ∙ at_in c.args.words.now c.loop-at.at c.loop-at.state k.0 k.1 c.loop-at-test.false c.in-default.not-Outside
+    ap (λ z. Err (record { place = z; rule = c.loop-at.state.rules; cause = InRule OutOfPlace })) (sym q) ∙ at_in c.args.words.now c.loop-at.at c.loop-at.state k.0 k.1 c.loop-at-test.false c.in_default.not-Outside

@@ -7,6 +7,6 @@ loop-init c = (omega arith, λ rs f e. rule_first c.args.words.now rs e)
 
 pub loop-preserved : goal.loop-preserved
 loop-preserved c = (
-  c.rule-end-at.ensures.within.1,
-  λ rs f e. rule_more c.args.words.now rs f c.loop.counter c.loop.at (c.loop.invariant.1 rs f e) c.loop.invariant.0 c.rule-end-at.result c.rule-end-at.ensures.end,
+  c.rule_end-at.ensures.within.1,
+  λ rs f e. rule_more c.args.words.now rs f c.loop.counter c.loop.at (c.loop.invariant.1 rs f e) c.loop.invariant.0 c.rule_end-at.result c.rule_end-at.ensures.end,
 )

@@ -4,5 +4,5 @@ use Rattle.held_store.proofs.row.Row.len.Goals as goal
 
 pub returns : goal.returns
 returns c =
-    let e = ap length c.as-slice.ensures in
+    let e = ap length c.as_slice.ensures in
     record { is = e; short = omega (arith, length-take c.args.self.now.len c.args.self.now.links, c.args.self.now.short) }

@@ -8,10 +8,10 @@ returns g c =
     let s = c.args.self.now in
     let n = g.S.Links.things s.base in
     let ls = g.S.Links.links s.base in
-    let e = ap (λ v. edited n v c.as-slice-2.result.now ls) c.as-slice.ensures ∙ ap (λ v. edited n (items s.off) v ls) c.as-slice-2.ensures in
+    let e = ap (λ v. edited n v c.as_slice-2.result.now ls) c.as_slice.ensures ∙ ap (λ v. edited n (items s.off) v ls) c.as_slice-2.ensures in
     record {
-      down = λ p. c.carry-out.ensures.links (subst (λ v. length v ≤ g.S.Links.limit s.base) (sym e) p) ∙ e;
+      down = λ p. c.carry_out.ensures.links (subst (λ v. length v ≤ g.S.Links.limit s.base) (sym e) p) ∙ e;
       none = (c.empty-self.ensures, c.empty-self-2.ensures);
-      things = c.carry-out.ensures.things;
-      limit = c.carry-out.ensures.limit;
+      things = c.carry_out.ensures.things;
+      limit = c.carry_out.ensures.limit;
     }

@@ -9,12 +9,12 @@ use Rattle.held_store.proofs.store.HeldStore.settle.Goals as goal
 pub returns : goal.returns
 returns g c =
     let s = c.args.self.now in
-    let t = c.send-down.new.self in
+    let t = c.send_down.new.self in
     let L = g.S.Links in
-    let sent = c.send-down.ensures in
+    let sent = c.send_down.ensures in
     let empty : layer_of L t ≡ nothing_held (L.links t.base) = layer_is (L.links t.base) (L.links t.base) _ _ _ _ refl sent.none.0 sent.none.1 in
     record {
-      told = c.held-count-held.ensures;
+      told = c.held_count-held.ensures;
       none = ap held_in empty;
       down = λ p. empty ∙ ap nothing_held (sent.down p);
       fresh = subst (λ v. Fresh v) (sym empty) (fresh_none (L.links t.base));

@@ -7,4 +7,4 @@ pub returns : goal.returns
 returns c =
     let h = c.args.self.now in
     let k = accepted_says (held_words h) h.accepted.ok in
-    (c.as-slice.ensures.value, (k.0, k.1, set_here (record { words = c.as-slice.result; rules = h.accepted.rules }) (held_words h) k.0 k.1 c.as-slice.ensures.value (h.accepted.counts ∙ k.2)))
+    (c.as_slice.ensures.value, (k.0, k.1, set_here (record { words = c.as_slice.result; rules = h.accepted.rules }) (held_words h) k.0 k.1 c.as_slice.ensures.value (h.accepted.counts ∙ k.2)))

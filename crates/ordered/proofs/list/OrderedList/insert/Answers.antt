@@ -10,10 +10,10 @@ returns-else-len-self g c =
     let a = c.in-Err.ensures in
     let b = g.R.Keyed.before in
     let xs = items c.args.self.now in
-    let done : ascending b xs ≡ true → take (c.len-len.result + 1) c.insert-at.new.records ≡ placed b c.args.x xs =
-    λ h. inserted_is b c.args.x c.args.self.now.records.now c.insert-at.new.records xs c.in-Err.at c.len-len.result (omega arith) c.len-len.ensures.front (a.sought h).1 c.insert-at.ensures in
+    let done : ascending b xs ≡ true → take (c.len-len.result + 1) c.insert_at.new.records ≡ placed b c.args.x xs =
+    λ h. inserted_is b c.args.x c.args.self.now.records.now c.insert_at.new.records xs c.in-Err.at c.len-len.result (omega arith) c.len-len.ensures.front (a.sought h).1 c.insert_at.ensures in
     record {
-      capacity = c.insert-at.auto.records;
+      capacity = c.insert_at.auto.records;
       inserted = λ h. ((a.sought h).0, omega arith, done h);
       rises = λ h. ap (ascending b) (done h) ∙ ascending_placed b g.met.R.Keyed.order c.args.x xs h (a.sought h).0;
     }

@@ -10,10 +10,10 @@ returns-in-Ok g c =
     let a = c.in-Ok.ensures in
     let b = g.R.Keyed.before in
     let xs = items c.args.self.now in
-    let done : ascending b xs ≡ true → take (c.len-len.result - 1) c.remove-at.new.records ≡ without b c.args.x.now xs =
-    λ h. removed_is b g.met.R.Keyed.order c.args.x.now c.args.self.now.records.now c.remove-at.new.records xs c.in-Ok.at c.len-len.result (omega arith) c.len-len.ensures.front (a.sought h).1 h (a.sought h).0 c.remove-at.ensures in
+    let done : ascending b xs ≡ true → take (c.len-len.result - 1) c.remove_at.new.records ≡ without b c.args.x.now xs =
+    λ h. removed_is b g.met.R.Keyed.order c.args.x.now c.args.self.now.records.now c.remove_at.new.records xs c.in-Ok.at c.len-len.result (omega arith) c.len-len.ensures.front (a.sought h).1 h (a.sought h).0 c.remove_at.ensures in
     record {
-      capacity = c.remove-at.auto.records;
+      capacity = c.remove_at.auto.records;
       answer = λ h. found_record b g.met.R.Keyed.order c.args.x.now xs c.in-Ok.at c.get-found.result h (a.sought h).0 (a.sought h).1 a.bound c.get-found.ensures;
       removed = done;
       rises = λ h. ap (ascending b) (done h) ∙ ascending_without b c.args.x.now xs h;

@@ -10,5 +10,5 @@ returns-then-i-ge4 c = λ r h. no_ban_left r c.args.i (c.args.self.place + 1 + l
 pub returns : goal.returns
 returns c =
     λ r h.
-    subst (BanIs r.variables (c.args.self.place + 1 + length r.needs + length (bans_words (take c.args.i r.bans))) (drop c.args.i r.bans)) (sym c.as-ban.ensures)
+    subst (BanIs r.variables (c.args.self.place + 1 + length r.needs + length (bans_words (take c.args.i r.bans))) (drop c.args.i r.bans)) (sym c.as_ban.ensures)
     (ban_handed c.args.self.place c.args.self.words.now r c.args.i c.part.result h (c.part.ensures r h))

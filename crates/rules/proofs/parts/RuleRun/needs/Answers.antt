@@ -4,5 +4,5 @@ use Rattle.rules.proofs.parts.RuleRun.needs.Goals as goal
 pub returns : goal.returns
 returns c =
     λ r h.
-    let w = needs_found c.args.self.place c.args.self.words.now r h c.min-from.result c.run-end-end.result c.min-from.ensures c.run-end-end.ensures.end in
-    ((needs_place c.args.self.place c.args.self.words.now r h c.min-from.result c.run-end-end.result c.min-from.ensures c.run-end-end.ensures.end c.saturating-add.result c.saturating-add.ensures, w), needs_read c.args.self.place c.args.self.words.now r h _ w)
+    let w = needs_found c.args.self.place c.args.self.words.now r h c.min-from.result c.run_end-end.result c.min-from.ensures c.run_end-end.ensures.end in
+    ((needs_place c.args.self.place c.args.self.words.now r h c.min-from.result c.run_end-end.result c.min-from.ensures c.run_end-end.ensures.end c.saturating_add.result c.saturating_add.ensures, w), needs_read c.args.self.place c.args.self.words.now r h _ w)

@@ -4,14 +4,14 @@ use Rattle.bit_store.proofs.Placing.{target_below, run_below}
 use Rattle.bit_store.proofs.Runs.{places_few, next_outside, next_none, next_some}
 use Rattle.bit_store.proofs.store.questions.BitStoreLinks.next_target.Goals as goal
 
-pub returns-in-default : goal.returns-in-default
-returns-in-default c = next_outside c.args.self.now.words.now c.args.self.now.sizes.things c.args.source c.args.label c.args.from c.in-default.ensures
+pub returns-in_default : goal.returns-in_default
+returns-in_default c = next_outside c.args.self.now.words.now c.args.self.now.sizes.things c.args.source c.args.label c.args.from c.in_default.ensures
 
-pub overflow-sub-row : goal.overflow-sub-row
-overflow-sub-row c = omega (arith, c.in-Some.ensures, target_below c.args.self.now.sizes.things c.args.source c.args.label c.args.from)
+pub overflow_sub-row : goal.overflow_sub-row
+overflow_sub-row c = omega (arith, c.in-Some.ensures, target_below c.args.self.now.sizes.things c.args.source c.args.label c.args.from)
 
-pub next-bit-requires : goal.next-bit-requires
-next-bit-requires c =
+pub next_bit-requires : goal.next_bit-requires
+next_bit-requires c =
     let s = c.args.self.now in
     let placed = c.in-Some.ensures in
     let r = run_below s.sizes.things c.args.source c.args.label c.args.from placed.0 in
@@ -21,12 +21,12 @@ next-bit-requires c =
     let p = placed.1 in
     record { within = omega (arith, s.long); few = omega arith }
 
-pub returns-in-Some-next-bit : goal.returns-in-Some-next-bit
-returns-in-Some-next-bit c =
+pub returns-in-Some-next_bit : goal.returns-in-Some-next_bit
+returns-in-Some-next_bit c =
     let s = c.args.self.now in
     let placed = c.in-Some.ensures in
-    let found = subst (λ (v : ℕ). LeastBelow (bit_on s.words.now) c.in-Some.first (c.in-Some.first - c.args.from + 64 + v) (Some c.in-Some-next-bit.place)) c.things.ensures.is c.in-Some-next-bit.ensures in
-    next_some s.words.now s.sizes.things c.args.source c.args.label c.args.from c.in-Some.first placed.1 placed.0 c.in-Some-next-bit.place found
+    let found = subst (λ (v : ℕ). LeastBelow (bit_on s.words.now) c.in-Some.first (c.in-Some.first - c.args.from + 64 + v) (Some c.in-Some-next_bit.place)) c.things.ensures.is c.in-Some-next_bit.ensures in
+    next_some s.words.now s.sizes.things c.args.source c.args.label c.args.from c.in-Some.first placed.1 placed.0 c.in-Some-next_bit.place found
 
 pub returns-in-None : goal.returns-in-None
 returns-in-None c =

@@ -7,15 +7,9 @@ use Rattle.links.proofs.Inside.{all_removed}
 use Rattle.links.proofs.Switching.{off_taken, off_missing}
 use Rattle.list_store.proofs.store.switching.ListStoreStore.switch_off.Goals as goal
 
-pub invariant-of-self : goal.invariant-of-self
-invariant-of-self c =
-    let s = c.args.self.now in (
-      c.remove.ensures.capacity ∙ s.roomy,
-      (
-        c.remove.ensures.rises s.rises,
-        (subst (λ v. all_inside s.sizes.things v ≡ true) (sym (c.remove.ensures.removed s.rises)) (all_removed s.sizes.things c.args.link (items s.list) s.within), tt),
-      ),
-    )
+pub invariant_of-self : goal.invariant_of-self
+invariant_of-self c =
+    let s = c.args.self.now in record { roomy = c.remove.ensures.capacity ∙ s.roomy; rises = c.remove.ensures.rises s.rises; within = subst (λ v. all_inside s.sizes.things v ≡ true) (sym (c.remove.ensures.removed s.rises)) (all_removed s.sizes.things c.args.link (items s.list) s.within) }
 
 pub returns-in-Some : goal.returns-in-Some
 returns-in-Some c =

@@ -73,7 +73,7 @@ impl Commissioning {
     {
         let set = read(words)?;
         let rules = set.rules;
-        let kept = Vec::from_slice(self.accepted.words.allocator(), words)?;
+        let kept = Vec::from_slice(*self.accepted.words.allocator(), words)?;
         self.accepted = Accepted { words: kept, rules };
         Ok(rules)
     }

@@ -1,10 +1,10 @@
 -- One binary digit of a word, and of a list of words.
-use Rattle.std.proofs.Common.{◌≡◌, ℕ, zero, suc, ◌+◌, ◌-◌, ◌*◌, ◌/◌, ◌%◌, ◌^◌, ◌<◌, ◌≤◌, Bool, true, false, eqb, ◌≢◌, List, length, get_or, set, sym, refl, ap, ◌∙◌, subst, ⊎_elim, arith}
+use Rattle.std.proofs.Common.{◌≡◌, ℕ, zero, suc, ◌+◌, ◌-◌, ◌/◌, ◌%◌, ◌^◌, ◌<◌, eqb, List, length, get_or, set, sym, refl, ap, ◌∙◌, subst, ⊎_elim, arith}
 use native.Mathlib.Nat.{div_self, div-eq_of_lt, mul-mod_left}
-use lib.Bits.{bit_and, bit_or, bit_xor, or_zero_r, xor_zero_r}
+use lib.Bits.{bit_or, bit_xor, or_zero_r, xor_zero_r}
 use Rattle.std.proofs.lemmas.Nat.{pow_pos, pow-add, pow_below, shl-shr, or_shr, or_mod, xor_shr, xor_mod, mod_below}
 use Rattle.std.proofs.lemmas.List.{get_or-set_same, get_or-set_other}
-use Rattle.std.proofs.lemmas.Bool.{eq-eqb, cases_order, cases_eq}
+use Rattle.std.proofs.lemmas.Bool.{cases_order, cases_eq}
 use Rattle.bit_store.specs.Places.{bit_on}
 
 power_above : (d j : ℕ) → 2 ^ (d + 1 + j) / 2 ^ j % 2 ≡ 0

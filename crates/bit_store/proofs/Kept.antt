@@ -1,8 +1,6 @@
 -- The links whose bits are on: members, and one bit switched.
-use Rattle.std.proofs.Common.{◌≡◌, ℕ, ◌+◌, ◌*◌, ◌/◌, ◌%◌, ◌^◌, ◌<◌, ◌≤◌, Bool, true, false, eqb, List, [], length, get_or, set, replicate, sym, refl, ap, ◌∙◌, subst, ⊎_elim, arith}
+use Rattle.std.proofs.Common.{◌≡◌, ℕ, ◌*◌, ◌/◌, ◌%◌, ◌^◌, ◌<◌, ◌≤◌, true, false, eqb, List, [], length, get_or, set, ap, ◌∙◌, subst, arith}
 use native.Mathlib.Nat.{zero-div}
-use Rattle.std.proofs.lemmas.Bool.{cases_lt}
-use Rattle.std.proofs.lemmas.List.{get_or-replicate, get_or_past, length-replicate}
 use Rattle.links.specs.declared.link.Link.{Link}
 use Rattle.links.specs.Sets.{member, inserted, removed, inside, all_inside, rising}
 use Rattle.bit_store.specs.Places.{place, link_at, places, bit_on, links_in}

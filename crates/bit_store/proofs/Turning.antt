@@ -1,11 +1,11 @@
 -- One link of a bit store switched.
-use Rattle.std.proofs.Common.{◌≡◌, ℕ, ◌+◌, ◌-◌, ◌*◌, ◌/◌, ◌%◌, ◌^◌, ◌<◌, ◌≤◌, Bool, true, false, eqb, List, length, get_or, set, Some, None, sym, refl, ap, ◌∙◌, arith}
+use Rattle.std.proofs.Common.{◌≡◌, ℕ, ◌+◌, ◌-◌, ◌/◌, ◌%◌, ◌^◌, ◌<◌, ◌≤◌, Bool, true, false, eqb, List, length, get_or, set, Some, None, sym, ap, ◌∙◌, arith}
 use Rattle.std.proofs.lemmas.List.{length-set}
 use Rattle.links.specs.declared.link.Link.{Link}
 use Rattle.links.specs.declared.switch_refusal.SwitchRefusal.TheVariants.{AlreadyOn, NotOn, Full}
 use Rattle.links.specs.Sets.{member, inserted, removed, inside}
 use Rattle.links.specs.Answers.{on_refusal, off_refusal}
-use Rattle.bit_store.specs.Places.{place, places, bit_on, links_in, words_for}
+use Rattle.bit_store.specs.Places.{place, bit_on, links_in, words_for}
 use Rattle.ordered.proofs.Members.{length_placed, length_without}
 use Rattle.links.specs.Sets.{link_before}
 use Rattle.links.specs.Order.{link_order}

@@ -1,5 +1,5 @@
 -- What stands before the first dash.
-use Rattle.std.proofs.Common.{◌≡◌, ℕ, ◌+◌, ◌<◌, ◌≤◌, Bool, true, false, cond, eqb, List, [], ◌∷◌, length, take, drop, Some, None, Option, sym, refl, ap, ◌∙◌, subst, arith, ne_eqb}
+use Rattle.std.proofs.Common.{◌≡◌, ℕ, ◌+◌, false, cond, eqb, List, length, take, drop, None, Option, sym, ap, ◌∙◌, ne_eqb}
 use Rattle.std.specs.Option.{option_map}
 use Rattle.commands.specs.declared.words.Class.TheVariants.{NonDash}
 use Rattle.commands.specs.Words.{decimal, run}

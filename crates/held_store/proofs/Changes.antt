@@ -1,6 +1,6 @@
 -- Held changes stay few, and each differs from what lies below.
-use Rattle.std.proofs.Common.{◌≡◌, ℕ, ◌+◌, ◌<◌, ◌≤◌, Bool, true, false, cond, not, ◌&&◌, ◌||◌, ltb, leb, List, [], ◌∷◌, ◌++◌, length, sym, refl, ap, ◌∙◌, subst, ⊎_elim, arith}
-use Rattle.std.proofs.lemmas.Bool.{cond_both, both_ways, and_parts, and_right, cases_Bool, or_cases, ltb-true, ltb-false}
+use Rattle.std.proofs.Common.{◌≡◌, ℕ, ◌≤◌, Bool, true, false, cond, not, ◌&&◌, ◌||◌, ltb, leb, List, [], ◌∷◌, length, sym, refl, ap, ◌∙◌, ⊎_elim, arith}
+use Rattle.std.proofs.lemmas.Bool.{cond_both, both_ways, and_parts, and_right, cases_Bool, or_cases, ltb-true}
 use Rattle.std.proofs.lemmas.List.{length_push}
 use Rattle.ordered.specs.Order.{same}
 use Rattle.ordered.proofs.Members.{has_without}

@@ -1,17 +1,15 @@
 -- What a layer's set becomes when a change is held, taken back or sent down.
-use Rattle.std.proofs.Common.{◌≡◌, ℕ, ◌+◌, ◌<◌, ◌≤◌, Bool, true, false, cond, not, ◌&&◌, ◌||◌, ltb, leb, List, [], ◌∷◌, ◌++◌, length, sym, refl, ap, ◌∙◌, subst, ⊎_elim, arith}
-use Rattle.std.proofs.lemmas.Bool.{cond_both, cond-true, cond-false, both_ways, and_parts, cases_Bool, or_cases, lt-ltb, le-ltb, le-leb, lt-leb, ltb-true}
-use Rattle.std.proofs.lemmas.List.{length_push}
+use Rattle.std.proofs.Common.{◌≡◌, ℕ, ◌<◌, ◌≤◌, Bool, true, false, cond, not, ◌&&◌, ◌||◌, ltb, leb, List, [], ◌∷◌, ◌++◌, length, sym, refl, ap, ◌∙◌}
+use Rattle.std.proofs.lemmas.Bool.{cond_both, cond-true, cond-false, both_ways, lt-ltb, le-ltb, le-leb, lt-leb}
 use Rattle.ordered.specs.Order.{same}
-use Rattle.ordered.proofs.Laws.{same_refl, ascending_placed, ascending_without, without_none}
+use Rattle.ordered.proofs.Laws.{same_refl, ascending_placed, ascending_without}
 use Rattle.ordered.proofs.Members.{has_placed, has_without}
 use Rattle.links.specs.declared.link.Link.{Link}
 use Rattle.links.specs.Sets.{link_before, rising, member, inserted, removed, inside}
 use Rattle.links.specs.Order.{link_order, same_is, same_members}
-use Rattle.link_edits.specs.Edits.{edited}
 use Rattle.link_edits.proofs.Edits.{member_edited, rising_edited}
 use Rattle.link_edits.proofs.Loops.{member_push}
-use Rattle.held_store.specs.Layers.{Layer, Fresh, set_in, held_in, nothing_held, sent_down, held_on, held_off, back_off, back_on, below_off, on_held, off_held, turned_on, turned_off}
+use Rattle.held_store.specs.Layers.{Layer, set_in, held_in, sent_down, held_on, held_off, back_off, back_on, below_off, on_held, off_held, turned_on, turned_off}
 
 abbrev pub layer : List Link → List Link → List Link → Layer
 layer below off on = record { below = below; off = off; on = on }

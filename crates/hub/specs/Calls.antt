@@ -1,5 +1,5 @@
 -- What the calls of a commissioning hub answer, and what they leave.
-use Rattle.std.specs.Prelude.{◌≡◌, ℕ, ◌<◌, ◌≤◌, Bool, true, List, ◌++◌, length, drop, Ok, Err, vec_items, Result}
+use Rattle.std.specs.Prelude.{◌≡◌, ℕ, ◌<◌, ◌≤◌, true, List, ◌++◌, length, drop, Ok, Err, vec_items, Result}
 use Rattle.rules.specs.declared.sets.RuleSet.{RuleSet}
 use Rattle.rules.specs.Rules.{Rule}
 use Rattle.rules.specs.Reading.{reading_of, accepted, Says}

@@ -1,5 +1,5 @@
 -- The smallest number that passes a test, by what is known of parts of the test.
-use Rattle.std.proofs.Common.{◌≡◌, ℕ, ◌+◌, ◌<◌, ◌≤◌, Bool, true, false, cond, not, ◌&&◌, ◌||◌, ltb, Some, None, Option, sym, refl, ap, ◌∙◌, subst, ⊎_elim, arith}
+use Rattle.std.proofs.Common.{◌≡◌, ℕ, ◌+◌, ◌<◌, ◌≤◌, Bool, true, false, ◌&&◌, ◌||◌, ltb, Some, None, Option, sym, refl, ap, ◌∙◌, ⊎_elim, arith}
 use Rattle.std.proofs.lemmas.Bool.{cond_both, or_from, or_left, or_right, cases_lt, ltb-true, ltb-false, and_from, and_left, cases_Bool}
 use Rattle.links.specs.Answers.{Least}
 use Rattle.link_edits.specs.Directions.{smaller}

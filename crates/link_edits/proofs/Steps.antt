@@ -1,7 +1,7 @@
 -- What a switching leaves, whatever it answers.
-use Rattle.std.proofs.Common.{◌≡◌, ℕ, zero, suc, ◌+◌, ◌<◌, ◌≤◌, Bool, true, false, cond, not, ◌&&◌, ◌||◌, leb, List, [], ◌∷◌, length, get_or, take, Some, None, Ok, Err, Result, sym, refl, ap, ◌∙◌, subst, arith}
+use Rattle.std.proofs.Common.{◌≡◌, ℕ, zero, suc, ◌+◌, ◌≤◌, Bool, true, false, cond, not, ◌&&◌, leb, List, [], ◌∷◌, length, take, Some, None, Ok, Err, Result, sym, refl, ap, ◌∙◌, arith}
 use Rattle.std.proofs.lemmas.List.{take_all}
-use Rattle.std.proofs.lemmas.Bool.{cond_both, both_ways, cases_Bool, lt-leb}
+use Rattle.std.proofs.lemmas.Bool.{cond_both, both_ways, lt-leb}
 use Rattle.ordered.proofs.Laws.{without_none}
 use Rattle.links.specs.declared.link.Link.{Link}
 use Rattle.links.specs.declared.switch_refusal.SwitchRefusal.{SwitchRefusal}

@@ -1,11 +1,10 @@
 -- Links inside the sizes, and what lies outside them.
-use Rattle.std.proofs.Common.{◌≡◌, ℕ, ◌+◌, ◌<◌, ◌≤◌, Bool, true, false, cond, ◌&&◌, List, [], ◌∷◌, sym, refl, ap, ◌∙◌, subst, arith}
+use Rattle.std.proofs.Common.{◌≡◌, ℕ, ◌+◌, ◌<◌, ◌≤◌, true, false, List, [], ◌∷◌, refl, arith}
 use Rattle.std.proofs.lemmas.Bool.{cond_both, and_parts, and_from, or_from}
 use Rattle.std.proofs.lemmas.Bool.Decides.{nat_tests}
 use Rattle.ordered.specs.Order.{same}
 use Rattle.links.specs.declared.link.Link.{Link}
 use Rattle.links.specs.Sets.{link_of, link_before, inserted, removed, member, inside, all_inside}
-use Rattle.links.specs.Order.{same_is}
 
 outside_same : (t : ℕ) (x m : Link) → inside t x ≡ false → inside t m ≡ true → same link_before x m ≡ false
 outside_same t x m h k = grind (arith, nat_tests)

@@ -1,6 +1,6 @@
 -- What a list has after a record is put in or taken out, how long it is then, and what it has past a place.
-use Rattle.std.proofs.Common.{◌≡◌, ℕ, zero, suc, ◌+◌, ◌<◌, Bool, true, false, cond, not, ◌&&◌, ◌||◌, List, [], ◌∷◌, length, get_or, Some, None, sym, refl, ap, ◌∙◌, subst, ⊎_elim, arith}
-use Rattle.std.proofs.lemmas.Bool.{cond_both, cond-true, cond-false, or_parts, or_from, or_left, or_right, or_cases, and_parts, both_ways, cases_Bool}
+use Rattle.std.proofs.Common.{◌≡◌, ℕ, zero, suc, ◌+◌, ◌<◌, Bool, true, false, not, ◌&&◌, ◌||◌, List, [], ◌∷◌, length, get_or, Some, None, sym, refl, ap, ◌∙◌, subst, ⊎_elim, arith}
+use Rattle.std.proofs.lemmas.Bool.{cond_both, cond-true, cond-false, or_from, or_left, or_right, or_cases, and_parts, both_ways, cases_Bool}
 use Rattle.ordered.specs.Order.{KeyOrder, leads, ascending, same, has, lookup, placed, without, rank}
 use Rattle.ordered.proofs.Laws.{same_refl, same_alike, same_before, same_after, leads_has, leads_trans, without_none}
 

@@ -1,13 +1,13 @@
 -- what reading answers
-use Rattle.std.proofs.Common.{◌≡◌, ℕ, ◌<◌, ◌≤◌, Bool, true, false, cond, ltb, List, length, Some, None, Ok, Err, Option, Result, sym, refl, ap, ◌∙◌, subst, arith}
+use Rattle.std.proofs.Common.{◌≡◌, ℕ, ◌<◌, ◌≤◌, cond, List, length, Some, None, Ok, Err, Option, Result, sym, refl, ap, ◌∙◌, subst, arith}
 use Rattle.std.proofs.lemmas.Bool.{lt-ltb, le-ltb}
 use Rattle.words.specs.declared.faults.Cause.TheVariants.{TooManyWords}
 use Rattle.rules.specs.declared.faults.SetFault.{SetFault}
 use Rattle.rules.specs.declared.sets.RuleSet.{RuleSet}
-use Rattle.rules.specs.Rules.{Rule, scanned, encode}
+use Rattle.rules.specs.Rules.{Rule, scanned}
 use Rattle.rules.specs.Scan.{counted}
 use Rattle.rules.specs.Marks.{second_fault, unless_fault, settled}
-use Rattle.rules.specs.Reading.{reading_of, Says}
+use Rattle.rules.specs.Reading.{reading_of}
 use Rattle.rules.specs.Sets.{SetHere, ReadAs, passed}
 use Rattle.rules.proofs.Sound.{scanned_encode}
 use Rattle.rules.proofs.Keeping.{scanned_valid}

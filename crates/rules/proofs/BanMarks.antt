@@ -1,10 +1,9 @@
 -- the bans of a rule, one after another
-use Rattle.std.proofs.Common.{◌≡◌, ℕ, ◌+◌, ◌-◌, ◌<◌, ◌≤◌, List, [], ◌∷◌, ◌++◌, length, take, drop, Some, None, Option, sym, refl, ap, ◌∙◌, subst, arith, length-append}
+use Rattle.std.proofs.Common.{◌≡◌, ℕ, ◌+◌, ◌≤◌, List, [], ◌∷◌, ◌++◌, length, take, drop, Some, None, Option, sym, refl, ap, ◌∙◌, arith, length-append}
 use Rattle.std.proofs.lemmas.List.{drop_all}
 use Rattle.words.specs.declared.faults.RuleFault.{RuleFault}
 use Rattle.rules.specs.declared.bans.BanRun.{BanRun}
-use Rattle.rules.specs.Rules.{Ban, Rule, bans_words, ban_words}
-use Rattle.rules.specs.Formed.{FormedRule}
+use Rattle.rules.specs.Rules.{Ban, bans_words, ban_words}
 use Rattle.rules.specs.Parts.{BanHere}
 use Rattle.rules.specs.Handed.{BanIs}
 use Rattle.rules.specs.Marks.{or_else, first_mark, ban_marks, bans_marks}

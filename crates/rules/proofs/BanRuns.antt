@@ -1,18 +1,18 @@
 -- the runs of one rule and of one ban
-use Rattle.std.proofs.Common.{◌≡◌, ℕ, zero, suc, ◌+◌, ◌-◌, ◌*◌, ◌/◌, ◌%◌, ◌^◌, ◌<◌, ◌≤◌, min, Bool, true, false, List, [], ◌∷◌, ◌++◌, map, length, get_or, take, drop, Some, None, Option, sym, refl, ap, ◌∙◌, subst, append_assoc, append-nil, arith, length-append, length-drop}
+use Rattle.std.proofs.Common.{◌≡◌, ℕ, zero, suc, ◌+◌, ◌-◌, ◌^◌, ◌<◌, ◌≤◌, min, List, [], ◌∷◌, ◌++◌, map, length, take, drop, Some, None, Option, sym, refl, ap, ◌∙◌, subst, append-nil, arith, length-append, length-drop}
 use Rattle.std.proofs.lemmas.List.{length-map, take_rest, drop_all}
 use Rattle.std.specs.List.{AllByRecursion as All}
 use Rattle.std.proofs.ByRecursion.{All-drop}
-use Rattle.words.specs.declared.items.Item.TheVariants.{Opens, Bans, Ends, Shares, Link}
+use Rattle.words.specs.declared.items.Item.TheVariants.{Opens, Ends, Shares, Link}
 use Rattle.words.specs.Words.{word_of, link_of, share_of}
 use Rattle.rules.specs.declared.parts.Part.{Part}
 use Rattle.rules.specs.declared.parts.Part.TheVariants.{Need as NeedRun, Ban as BanPart, Strike as StrikeRun, Makes as MakesRun}
 use Rattle.rules.specs.declared.bans.BanRun.{BanRun}
-use Rattle.rules.specs.Rules.{Ban, Making, Rule, rule_words, link_words, share_words, bans_words, ban_words, need_words, thing_words, makes_words}
+use Rattle.rules.specs.Rules.{Ban, Making, Rule, link_words, share_words, bans_words, ban_words, need_words, thing_words, makes_words}
 use Rattle.rules.specs.Formed.{FormedBan, FormedRule}
 use Rattle.rules.specs.Runs.{span, end_of}
-use Rattle.rules.specs.Parts.{Piece, need_piece, ban_piece, strike_piece, make_piece, piece_words, pieces_words, piece_number, strike_pieces, make_pieces, pieces, RuleHere, BanHere}
-use Rattle.rules.specs.Handed.{part_number, part_place, part_words, IsPart, PartIs, ban_of, BanIs}
+use Rattle.rules.specs.Parts.{Piece, ban_piece, pieces_words, piece_number, strike_pieces, make_pieces, pieces, RuleHere, BanHere}
+use Rattle.rules.specs.Handed.{PartIs, ban_of, BanIs}
 use Rattle.rules.proofs.Complete.{six}
 use Rattle.rules.proofs.Spans.{span_exact}
 use Rattle.rules.proofs.WordKinds.{links_back, shares_back, kinds_links, kinds_shares, starts_bans, past_at, end_at, run_at}

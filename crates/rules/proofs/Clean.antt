@@ -1,16 +1,15 @@
 -- rules are valid exactly when no word has a fault of the second pass
-use Rattle.std.proofs.Common.{◌≡◌, ℕ, ◌+◌, ◌<◌, ◌≤◌, Bool, true, false, cond, List, [], ◌∷◌, ◌++◌, map, length, Some, None, Option, sym, refl, ap, ◌∙◌, subst, arith}
+use Rattle.std.proofs.Common.{◌≡◌, ℕ, ◌+◌, Bool, true, false, cond, List, [], ◌∷◌, ◌++◌, map, length, Some, None, Option, refl, ap, ◌∙◌, arith}
 use Rattle.std.specs.List.{AllByRecursion as All}
 use Rattle.std.proofs.ByRecursion.{All-append}
 use Rattle.words.specs.declared.items.PatternLink.{PatternLink}
 use Rattle.words.specs.declared.items.Share.{Share}
 use Rattle.words.specs.declared.faults.RuleFault.{RuleFault}
 use Rattle.words.specs.declared.faults.RuleFault.TheVariants.{Unanchored, SharesNothing, SharesTwice, LinksShared, MadeAtStruck}
-use Rattle.rules.specs.declared.faults.SetFault.{SetFault}
 use Rattle.rules.specs.Rules.{Ban, Making, Rule, rule_words}
 use Rattle.rules.specs.Formed.{FormedRule}
 use Rattle.rules.specs.Anchors.{some, anchored, is_shared, joins_shared, shares_again, touches}
-use Rattle.rules.specs.Marks.{fault_if, or_else, placed, first_mark, share_marks, ban_mark, ban_marks, bans_marks, makes_marks, unmarked, rule_marks, in_rule, second_fault}
+use Rattle.rules.specs.Marks.{fault_if, or_else, placed, first_mark, share_marks, ban_marks, bans_marks, makes_marks, unmarked, rule_marks, in_rule, second_fault}
 use Rattle.rules.specs.Valid.{SharedOnce, ValidBan, ValidMaking, ValidRule}
 
 abbrev Clean : List (Option RuleFault) → Type 0

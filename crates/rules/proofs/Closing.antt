@@ -1,5 +1,5 @@
 -- the rule of a fault is the number of rules that end before its place
-use Rattle.std.proofs.Common.{◌≡◌, ℕ, ◌+◌, ◌-◌, ◌/◌, ◌<◌, ◌≤◌, Bool, true, false, cond, ◌&&◌, eqb, ltb, leb, List, [], ◌∷◌, ◌++◌, length, take, Some, None, Ok, Err, Option, Result, sym, refl, ap, ◌∙◌, subst, append_assoc, append-nil, arith, length-append}
+use Rattle.std.proofs.Common.{◌≡◌, ℕ, ◌+◌, ◌-◌, ◌/◌, ◌<◌, ◌≤◌, true, cond, eqb, leb, List, [], ◌∷◌, ◌++◌, length, take, Some, None, Ok, Err, Option, Result, sym, refl, ap, ◌∙◌, append_assoc, arith, length-append}
 use lib.Seq.{take-append-add}
 use Rattle.std.proofs.lemmas.List.{length_push, length-map, take_at, take-append-le}
 use Rattle.std.proofs.ByRecursion.{All-take}
@@ -18,11 +18,11 @@ use Rattle.words.specs.Words.{word_of, target_kind}
 use Rattle.words.specs.Steps.{next_of}
 use Rattle.words.proofs.Coding.{kind_of, item_kind}
 use Rattle.rules.specs.declared.faults.SetFault.{SetFault}
-use Rattle.rules.specs.Rules.{Making, Rule, Partial, outside, in_needs, in_shares, in_links, in_struck_needs, in_struck_things, in_makes, grown, numbers, read_of, fault_at, ended, go_on, run, scanned, encode, rule_words, link_words, bans_words, need_words, thing_words, makes_words}
+use Rattle.rules.specs.Rules.{Making, Rule, Partial, outside, in_needs, in_shares, in_links, in_struck_needs, in_struck_things, in_makes, numbers, read_of, fault_at, ended, go_on, run, scanned, encode, rule_words, link_words, bans_words, need_words, thing_words, makes_words}
 use Rattle.rules.specs.Formed.{FormedRule}
 use Rattle.rules.specs.Runs.{within}
 use Rattle.rules.specs.Anchors.{touches}
-use Rattle.rules.specs.Marks.{fault_if, or_else, placed, first_mark, bans_marks, makes_marks, unmarked, rule_marks, in_rule, second_fault, unless_fault, settled}
+use Rattle.rules.specs.Marks.{fault_if, or_else, first_mark, bans_marks, makes_marks, unmarked, rule_marks, in_rule, second_fault, unless_fault, settled}
 use Rattle.rules.specs.Reading.{reading_of, ends}
 use Rattle.rules.proofs.Readings.{numbers_grown}
 use Rattle.rules.proofs.Sound.{read_some_item, scanned_encode}

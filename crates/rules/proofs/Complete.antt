@@ -1,8 +1,8 @@
 -- what is written is read
-use Rattle.std.proofs.Common.{◌≡◌, ℕ, ◌+◌, ◌-◌, ◌*◌, ◌/◌, ◌%◌, ◌^◌, ◌<◌, ◌≤◌, Bool, true, false, cond, ◌&&◌, ◌||◌, eqb, ltb, leb, ◌⊎◌, List, [], ◌∷◌, ◌++◌, map, length, Some, None, Ok, Err, Option, Result, sym, refl, ap, ◌∙◌, subst, inl, inr, append_assoc, append-nil, arith, length-append}
+use Rattle.std.proofs.Common.{◌≡◌, ℕ, ◌+◌, ◌<◌, ◌≤◌, true, false, cond, ◌&&◌, eqb, ltb, leb, List, [], ◌∷◌, ◌++◌, map, length, Some, None, Ok, Option, sym, refl, ap, ◌∙◌, subst, append_assoc, append-nil, arith, length-append}
 use Rattle.std.specs.List.{AllByRecursion as All}
 use Rattle.std.proofs.lemmas.List.{length_push}
-use Rattle.std.proofs.lemmas.Bool.{and_parts, or_parts, or_from, lt-ltb, lt-leb, ltb-true, leb-true, eqb-true, eqb-false, ne_eqb, eq-eqb, and_left, cases_Bool}
+use Rattle.std.proofs.lemmas.Bool.{and_parts, or_parts, or_from, lt-leb, ltb-true, leb-true, eqb-false, ne_eqb, eq-eqb, and_left}
 use Rattle.words.specs.declared.items.PatternLink.{PatternLink}
 use Rattle.words.specs.declared.items.Target.{Target}
 use Rattle.words.specs.declared.items.Target.TheVariants.{Variable, Mark}
@@ -11,7 +11,7 @@ use Rattle.words.specs.declared.items.Item.{Item}
 use Rattle.words.specs.declared.items.Item.TheVariants.{Opens, Link, Bans, Shares, StrikesNeed, StrikesThing, Makes, Ends}
 use Rattle.words.specs.declared.stages.Stage.{Stage}
 use Rattle.words.specs.declared.stages.Stage.TheVariants.{Opened, Needs, BanReady, BanLinks, MakesOpened, Made}
-use Rattle.words.specs.Words.{item_of, word_of, said, target_number}
+use Rattle.words.specs.Words.{word_of, target_number}
 use Rattle.words.specs.Steps.{has, may, in_range, in_six, target_in, link_in, share_in, listed, too_many, many, judged, and_then, worded, after_need, after_thing}
 use Rattle.rules.specs.Rules.{Ban, Making, Rule, Head, Partial, outside, in_needs, in_shares, in_links, in_struck_needs, in_struck_things, in_makes, grown, head_of, struck_needs_of, struck_things_of, makes_of, made, numbers, staged, tail, read_of, go_on, run, scanned, encode, rule_words, link_words, share_words, need_words, thing_words, ban_words, bans_words, makes_words}
 use Rattle.rules.specs.Formed.{Distinct, Links, FormedBan, FormedMaking, FormedRule, FormedRules}

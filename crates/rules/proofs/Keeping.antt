@@ -1,5 +1,5 @@
 -- valid rules are kept by each word
-use Rattle.std.proofs.Common.{◌≡◌, ℕ, ◌+◌, ◌<◌, ◌≤◌, Bool, true, false, cond, ◌&&◌, ◌||◌, eqb, ltb, leb, List, [], ◌∷◌, ◌++◌, map, length, Some, None, Ok, Err, Option, sym, refl, ap, ◌∙◌, subst, arith}
+use Rattle.std.proofs.Common.{◌≡◌, ℕ, ◌+◌, ◌<◌, ◌≤◌, true, false, ◌&&◌, eqb, ltb, leb, List, [], ◌∷◌, ◌++◌, map, length, Some, None, Ok, Option, sym, refl, ap, ◌∙◌, subst, arith}
 use Rattle.std.specs.List.{AllByRecursion as All}
 use Rattle.std.proofs.lemmas.List.{length_push}
 use Rattle.std.proofs.ByRecursion.{All-push}
@@ -10,7 +10,7 @@ use Rattle.words.specs.declared.items.Item.{Item}
 use Rattle.words.specs.declared.items.Item.TheVariants.{Opens, Link, Bans, Shares, StrikesNeed, StrikesThing, Makes, Ends}
 use Rattle.words.specs.Words.{word_of}
 use Rattle.words.specs.Steps.{has, may, in_range, in_six, link_in, share_in, listed, too_many}
-use Rattle.rules.specs.Rules.{Ban, Making, Rule, Head, Partial, outside, in_needs, in_shares, in_links, in_struck_needs, in_struck_things, in_makes, grown, head_of, made, numbers, tail, read_of, ended, scanned, encode, link_words, need_words, thing_words}
+use Rattle.rules.specs.Rules.{Ban, Making, Rule, Head, Partial, outside, in_needs, in_shares, in_links, in_struck_needs, in_struck_things, in_makes, grown, head_of, made, numbers, tail, read_of, ended, scanned, link_words}
 use Rattle.rules.specs.Formed.{Distinct, Links, FormedBan, FormedMaking, FormedRule, FormedRules}
 use Rattle.words.proofs.Coding.{item_word}
 use Rattle.rules.proofs.Complete.{six}

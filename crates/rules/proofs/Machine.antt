@@ -1,20 +1,19 @@
 -- the machine over numbers goes with the reading
-use Rattle.std.proofs.Common.{◌≡◌, ℕ, ◌+◌, ◌-◌, ◌^◌, ◌<◌, ◌≤◌, Bool, true, false, cond, ◌&&◌, eqb, ltb, leb, List, [], ◌∷◌, ◌++◌, length, get_or, take, drop, Ok, Err, Result, sym, refl, ap, ◌∙◌, subst, append_assoc, arith, length-append}
-use Rattle.std.proofs.lemmas.List.{at_drop_more, at_drop_all, take_more, drop_at, take_at, take-take, drop-take, length-take-le, length-map, take-append-drop, take_all}
-use Rattle.std.proofs.lemmas.Bool.{and_parts, leb-true, false≢true}
+use Rattle.std.proofs.Common.{◌≡◌, ℕ, ◌+◌, ◌-◌, ◌<◌, ◌≤◌, Bool, true, false, cond, ◌&&◌, eqb, leb, List, [], ◌∷◌, ◌++◌, length, get_or, take, drop, Ok, Err, Result, sym, refl, ap, ◌∙◌, subst, arith, length-append}
+use Rattle.std.proofs.lemmas.List.{at_drop_more, at_drop_all, take_more, drop_at, drop-take, length-take-le, length-map}
+use Rattle.std.proofs.lemmas.Bool.{and_parts, leb-true}
 use Rattle.words.specs.declared.items.Item.{Item}
 use Rattle.words.specs.declared.items.Item.TheVariants.{Opens, Link, Bans, Shares, StrikesNeed, StrikesThing, Makes, Ends}
 use Rattle.words.specs.declared.faults.WordFault.{WordFault}
 use Rattle.words.specs.declared.faults.RuleFault.TheVariants.{OutOfPlace, OutOfRange, Twice}
 use Rattle.words.specs.declared.faults.Cause.{Cause}
 use Rattle.words.specs.declared.faults.Cause.TheVariants.{InRule}
-use Rattle.rules.specs.declared.faults.SetFault.{SetFault}
 use Rattle.words.specs.declared.steps.State.{State}
 use Rattle.words.specs.declared.stages.Stage.{Stage}
 use Rattle.words.specs.declared.stages.Stage.TheVariants.{Outside, Opened, Needs, BanOpened, BanReady, BanLinks, StruckNeeds, StruckThings, MakesOpened, Made}
-use Rattle.words.specs.Words.{item_of, word_of}
+use Rattle.words.specs.Words.{item_of}
 use Rattle.words.specs.Steps.{has, may, in_range, listed, too_many, many, judged, next_of, and_then, worded, step_of, Small, struck_needs, struck_things}
-use Rattle.rules.specs.Rules.{Rule, Head, Partial, outside, in_needs, in_shares, in_links, in_struck_needs, in_struck_things, in_makes, grown, numbers, written, front, tail, read_of, fault_at, ended, go_on, run, scanned}
+use Rattle.rules.specs.Rules.{Partial, outside, in_needs, in_shares, in_links, in_struck_needs, in_struck_things, in_makes, grown, numbers, written, front, tail, read_of, fault_at, ended, go_on, run, scanned}
 use Rattle.rules.specs.Scan.{counted}
 use Rattle.rules.proofs.Readings.{numbers_grown, written_grown}
 use Rattle.words.proofs.Coding.{item_word}

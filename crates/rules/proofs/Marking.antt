@@ -1,12 +1,10 @@
 -- loops over words that look for the first fault
-use Rattle.std.proofs.Common.{◌≡◌, ℕ, zero, suc, ◌+◌, ◌-◌, ◌%◌, ◌^◌, ◌<◌, ◌≤◌, min, Bool, true, false, cond, not, ◌&&◌, ◌||◌, eqb, List, [], ◌∷◌, ◌++◌, map, length, get_or, take, drop, Some, None, Option, sym, refl, ap, ◌∙◌, subst, arith}
+use Rattle.std.proofs.Common.{◌≡◌, ℕ, zero, suc, ◌+◌, ◌-◌, ◌^◌, ◌<◌, ◌≤◌, min, Bool, true, false, ◌&&◌, ◌||◌, List, [], ◌∷◌, ◌++◌, map, length, get_or, take, drop, Some, None, Option, sym, refl, ap, ◌∙◌, arith}
 use Rattle.std.proofs.lemmas.List.{at_drop_more, at_drop_all, map_more, get_or-map, get_or_past, length-map}
-use Rattle.std.proofs.lemmas.Bool.{eq-eqb, ne_eqb}
 use Rattle.words.specs.declared.items.PatternLink.{PatternLink}
-use Rattle.words.specs.declared.items.Share.{Share}
 use Rattle.words.specs.declared.faults.RuleFault.{RuleFault}
 use Rattle.words.specs.declared.faults.RuleFault.TheVariants.{SharesTwice}
-use Rattle.words.specs.Words.{link_of, share_of}
+use Rattle.words.specs.Words.{share_of}
 use Rattle.rules.specs.Anchors.{some, anchors, anchored, is_shared, shared_at, shares_again}
 use Rattle.rules.specs.Marks.{fault_if, or_else, placed, first_mark, share_marks}
 

@@ -1,20 +1,16 @@
 -- the parts of a rule, found one after another
-use Rattle.std.proofs.Common.{◌≡◌, ℕ, zero, suc, ◌+◌, ◌-◌, ◌*◌, ◌/◌, ◌%◌, ◌^◌, ◌<◌, ◌≤◌, min, Bool, true, false, List, [], ◌∷◌, ◌++◌, map, length, get_or, take, drop, Some, None, Option, sym, refl, ap, ◌∙◌, subst, append_assoc, append-nil, arith, length-append, length-drop}
-use Rattle.std.proofs.lemmas.List.{length-map, take_at, drop_all, drop-drop}
-use Rattle.std.specs.List.{AllByRecursion as All}
-use Rattle.std.proofs.ByRecursion.{All-drop}
-use Rattle.words.specs.declared.items.Item.TheVariants.{Opens, Link, Bans, Ends}
+use Rattle.std.proofs.Common.{◌≡◌, ℕ, ◌+◌, ◌-◌, ◌/◌, ◌≤◌, min, List, [], ◌∷◌, ◌++◌, map, length, get_or, take, drop, Some, None, Option, sym, refl, ap, ◌∙◌, subst, arith, length-append, length-drop}
+use Rattle.std.proofs.lemmas.List.{length-map, drop_all}
+use Rattle.words.specs.declared.items.Item.TheVariants.{Opens, Ends}
 use Rattle.words.specs.Words.{word_of}
 use Rattle.rules.specs.declared.parts.Part.{Part}
-use Rattle.rules.specs.declared.parts.Part.TheVariants.{Need as NeedRun, Ban as BanPart, Strike as StrikeRun, Makes as MakesRun}
-use Rattle.rules.specs.declared.bans.BanRun.{BanRun}
-use Rattle.rules.specs.Rules.{Ban, Making, Rule, rule_words, link_words, bans_words, ban_words}
-use Rattle.rules.specs.Formed.{FormedBan, FormedMaking, FormedRule}
+use Rattle.rules.specs.Rules.{Making, Rule, rule_words}
+use Rattle.rules.specs.Formed.{FormedRule}
 use Rattle.rules.specs.Runs.{part_of, part_end_by, part_end}
-use Rattle.rules.specs.Parts.{Piece, need_piece, ban_piece, strike_piece, make_piece, piece_words, pieces_words, piece_number, strike_pieces, make_pieces, pieces, RuleHere, BanHere}
-use Rattle.rules.specs.Handed.{part_number, part_place, part_words, PartAt, Cut, IsPart, PartIs, ban_of, BanIs}
-use Rattle.rules.proofs.WordKinds.{head_at, tail_at, run_at}
-use Rattle.rules.proofs.Walking.{Suffixes, suffix_at, Split, split, past, Reached, reached_first, reached_element, reached_more, joined_push}
+use Rattle.rules.specs.Parts.{Piece, ban_piece, piece_words, pieces_words, piece_number, strike_pieces, make_pieces, pieces}
+use Rattle.rules.specs.Handed.{part_number, part_place, part_words, PartAt, Cut, IsPart, PartIs}
+use Rattle.rules.proofs.WordKinds.{head_at, run_at}
+use Rattle.rules.proofs.Walking.{suffix_at, Reached, reached_element, reached_more}
 use Rattle.rules.proofs.Pieces.{PieceAt, pieces_fine, rule_pieces, stands}
 
 pub part_first : (ws : List ℕ) (r : Rule) (at : ℕ) → ws ≡ rule_words r → at ≡ min (length ws) 1 → PartAt ws r 0 at

@@ -1,11 +1,10 @@
 -- the parts of a rule as they stand in its words
-use Rattle.std.proofs.Common.{◌≡◌, ℕ, zero, suc, ◌+◌, ◌-◌, ◌*◌, ◌/◌, ◌%◌, ◌^◌, ◌<◌, ◌≤◌, Bool, true, false, cond, ◌&&◌, ◌||◌, eqb, ltb, leb, List, [], ◌∷◌, ◌++◌, map, length, get_or, take, drop, Some, None, Option, sym, refl, ap, ◌∙◌, subst, append_assoc, append-nil, arith, length-append}
+use Rattle.std.proofs.Common.{◌≡◌, ℕ, ◌+◌, ◌/◌, ◌<◌, ◌≤◌, true, false, cond, ◌&&◌, ◌||◌, eqb, ltb, leb, List, [], ◌∷◌, ◌++◌, map, length, get_or, drop, Some, None, Option, sym, refl, ap, ◌∙◌, subst, append_assoc, append-nil, arith, length-append}
 use Rattle.std.proofs.lemmas.Bool.Decides.{nat_tests}
-use Rattle.std.proofs.lemmas.List.{length-map}
-use Rattle.std.proofs.lemmas.Bool.{ltb-true, leb-true, lt-leb, and_parts, and_left}
+use Rattle.std.proofs.lemmas.Bool.{leb-true}
 use Rattle.std.specs.List.{AllByRecursion as All}
 use Rattle.words.specs.declared.items.PatternLink.{PatternLink}
-use Rattle.words.specs.declared.items.Item.TheVariants.{Opens, Link, Bans, StrikesNeed, StrikesThing, Makes, Ends}
+use Rattle.words.specs.declared.items.Item.TheVariants.{Opens, Link, Bans, Makes, Ends}
 use Rattle.words.specs.Words.{word_of}
 use Rattle.words.proofs.Coding.{kind_of_word}
 use Rattle.rules.specs.Rules.{Ban, Making, Rule, rule_words, link_words, share_words, ban_words, bans_words, need_words, thing_words, makes_words}
@@ -13,8 +12,8 @@ use Rattle.rules.specs.Formed.{FormedBan, FormedMaking, FormedRule}
 use Rattle.rules.specs.Runs.{within, span, end_of, part_of, part_end_by, part_end}
 use Rattle.rules.specs.Parts.{Piece, need_piece, ban_piece, strike_piece, make_piece, piece_words, pieces_words, strike_pieces, make_pieces, pieces, piece_number}
 use Rattle.rules.proofs.Complete.{six}
-use Rattle.rules.proofs.Spans.{Kinds, Starts, span_exact, stops}
-use Rattle.rules.proofs.WordKinds.{kinds_links, kinds_shares, kinds_needs, kinds_things, kinds_wider, kinds_join, starts_makes, starts_strikes, starts_bans, head_at, tail_at, past_at, end_at}
+use Rattle.rules.proofs.Spans.{Kinds, Starts, span_exact}
+use Rattle.rules.proofs.WordKinds.{kinds_links, kinds_shares, kinds_needs, kinds_things, kinds_wider, kinds_join, starts_makes, starts_bans, head_at, tail_at, past_at, end_at}
 use Rattle.rules.proofs.Walking.{Suffixes}
 
 -- the kind that what follows a part begins with at least

@@ -1,24 +1,24 @@
 -- the marks of a rule, part by part
-use Rattle.std.proofs.Common.{◌≡◌, ℕ, zero, suc, ◌+◌, ◌-◌, ◌*◌, ◌/◌, ◌%◌, ◌^◌, ◌<◌, ◌≤◌, min, Bool, true, false, cond, ◌&&◌, ◌||◌, eqb, ltb, leb, List, [], ◌∷◌, ◌++◌, map, length, get_or, take, drop, Some, None, Option, sym, refl, ap, ◌∙◌, subst, append_assoc, append-nil, arith, length-append, length-drop}
+use Rattle.std.proofs.Common.{◌≡◌, ℕ, ◌+◌, ◌-◌, ◌/◌, ◌%◌, ◌^◌, ◌≤◌, min, Bool, true, false, cond, ◌&&◌, ltb, leb, List, [], ◌∷◌, ◌++◌, map, length, take, drop, Some, None, Option, sym, refl, ap, ◌∙◌, append_assoc, arith, length-append, length-drop}
 use mathlib.Core.List.{map-append}
-use Rattle.std.proofs.lemmas.List.{length-map, take_rest, drop_all}
+use Rattle.std.proofs.lemmas.List.{length-map, take_rest}
 use Rattle.std.proofs.lemmas.Bool.{ltb-true, leb-true}
 use Rattle.std.specs.List.{AllByRecursion as All}
 use Rattle.words.specs.declared.items.PatternLink.{PatternLink}
 use Rattle.words.specs.declared.items.Target.{Target}
-use Rattle.words.specs.declared.items.Target.TheVariants.{Variable, Mark}
+use Rattle.words.specs.declared.items.Target.TheVariants.{Mark}
 use Rattle.words.specs.declared.items.Share.{Share}
-use Rattle.words.specs.declared.items.Item.TheVariants.{Opens, Link, Bans, Shares, StrikesNeed, StrikesThing, Makes, Ends}
+use Rattle.words.specs.declared.items.Item.TheVariants.{Opens, Link, Shares, StrikesNeed, StrikesThing, Makes, Ends}
 use Rattle.words.specs.declared.faults.RuleFault.{RuleFault}
-use Rattle.words.specs.declared.faults.RuleFault.TheVariants.{Unanchored, SharesNothing, SharesTwice, LinksShared, MadeAtStruck}
+use Rattle.words.specs.declared.faults.RuleFault.TheVariants.{Unanchored, SharesNothing, LinksShared, MadeAtStruck}
 use Rattle.words.specs.Words.{word_of, link_of, share_of}
 use Rattle.words.proofs.Coding.{kind_of_word}
-use Rattle.rules.specs.Rules.{Ban, Making, Rule, rule_words, link_words, share_words, ban_words, bans_words, need_words, thing_words, makes_words}
-use Rattle.rules.specs.Formed.{FormedBan, FormedMaking, FormedRule}
-use Rattle.rules.specs.Anchors.{some, anchored, is_shared, aims, joins_shared, shares_again, touches}
-use Rattle.rules.specs.Runs.{within, span, end_of}
+use Rattle.rules.specs.Rules.{Ban, Making, Rule, link_words, share_words, ban_words, bans_words, need_words, thing_words, makes_words}
+use Rattle.rules.specs.Formed.{FormedMaking, FormedRule}
+use Rattle.rules.specs.Anchors.{some, anchored, is_shared, aims, joins_shared, touches}
+use Rattle.rules.specs.Runs.{end_of}
 use Rattle.rules.specs.Parts.{RuleHere, BanHere}
-use Rattle.rules.specs.Marks.{fault_if, or_else, placed, first_mark, share_marks, link_marks, ban_mark, ban_marks, bans_marks, makes_marks, unmarked, rule_marks, last_marks, last_place, low_of, made_mark}
+use Rattle.rules.specs.Marks.{fault_if, or_else, placed, first_mark, share_marks, link_marks, ban_marks, bans_marks, makes_marks, unmarked, rule_marks, last_marks, last_place, low_of, made_mark}
 use Rattle.rules.proofs.Complete.{six}
 use Rattle.rules.proofs.Spans.{Kinds, in_kind}
 use Rattle.rules.proofs.WordKinds.{kinds_links, kinds_needs, kinds_things, kinds_bans, kinds_wider, kinds_join, links_back, shares_back, starts_makes, starts_things, past_at, end_at, run_at}

@@ -1,5 +1,5 @@
 -- the rules of a set, found one after another
-use Rattle.std.proofs.Common.{◌≡◌, ℕ, ◌+◌, ◌-◌, ◌/◌, ◌<◌, ◌≤◌, Bool, true, false, cond, ltb, List, [], ◌∷◌, ◌++◌, length, take, drop, Some, None, Option, sym, refl, ap, ◌∙◌, subst, append_assoc, append-nil, arith, length-append, length-drop}
+use Rattle.std.proofs.Common.{◌≡◌, ℕ, ◌+◌, ◌-◌, ◌<◌, ◌≤◌, true, false, cond, ltb, List, [], ◌∷◌, ◌++◌, length, take, drop, Some, None, Option, sym, refl, ap, ◌∙◌, subst, append_assoc, append-nil, arith, length-append, length-drop}
 use Rattle.std.proofs.lemmas.List.{drop_all}
 use Rattle.std.proofs.lemmas.Bool.{lt-ltb, le-ltb, leb-true}
 use Rattle.std.specs.List.{AllByRecursion as All}
@@ -8,20 +8,18 @@ use Rattle.words.specs.declared.faults.RuleFault.{RuleFault}
 use Rattle.words.specs.declared.faults.Cause.TheVariants.{InRule}
 use Rattle.words.specs.Words.{word_of}
 use Rattle.words.proofs.Coding.{kind_of_word}
-use Rattle.rules.specs.declared.faults.SetFault.{SetFault}
 use Rattle.rules.specs.declared.parts.RuleRun.{RuleRun}
-use Rattle.rules.specs.declared.sets.RuleSet.{RuleSet}
 use Rattle.rules.specs.Rules.{Making, Rule, rule_words, encode, link_words, bans_words, need_words, thing_words, makes_words}
 use Rattle.rules.specs.Formed.{FormedMaking, FormedRule}
 use Rattle.rules.specs.Runs.{span, end_of, rule_end}
 use Rattle.rules.specs.Parts.{RuleHere}
 use Rattle.rules.specs.Handed.{RuleIs}
 use Rattle.rules.specs.Marks.{or_else, first_mark, rule_marks, in_rule, second_fault}
-use Rattle.rules.specs.Sets.{SetHere, RuleStart}
+use Rattle.rules.specs.Sets.{RuleStart}
 use Rattle.rules.proofs.Complete.{six}
-use Rattle.rules.proofs.Spans.{Kinds, Starts, in_kind}
-use Rattle.rules.proofs.WordKinds.{kinds_links, kinds_things, kinds_wider, kinds_join, past_at, end_at, run_at}
-use Rattle.rules.proofs.Walking.{Suffixes, suffix_at, split, past, Reached, reached_first, reached_element, reached_more, joined_push}
+use Rattle.rules.proofs.Spans.{Kinds, in_kind}
+use Rattle.rules.proofs.WordKinds.{kinds_links, kinds_things, kinds_wider, kinds_join, end_at, run_at}
+use Rattle.rules.proofs.Walking.{Suffixes, suffix_at, split, past, Reached, reached_element, reached_more, joined_push}
 use Rattle.rules.proofs.RuleMarks.{front_of, front_kinds}
 
 -- all words of a rule but its last

@@ -1,15 +1,14 @@
 -- what is read was written
-use Rattle.std.proofs.Common.{◌≡◌, ℕ, ◌+◌, ◌-◌, ◌^◌, ◌<◌, ◌≤◌, Bool, true, false, cond, ◌&&◌, List, [], ◌∷◌, ◌++◌, Ok, Err, Result, sym, refl, ap, ◌∙◌, subst, append_assoc, append-nil, arith}
+use Rattle.std.proofs.Common.{◌≡◌, ℕ, ◌+◌, true, false, ◌&&◌, List, [], ◌∷◌, ◌++◌, Ok, Err, Result, sym, refl, ap, ◌∙◌, append_assoc, append-nil, arith}
 use Rattle.words.specs.declared.items.Item.{Item}
 use Rattle.words.specs.declared.faults.WordFault.{WordFault}
 use Rattle.words.specs.declared.faults.Cause.{Cause}
-use Rattle.rules.specs.declared.faults.SetFault.{SetFault}
-use Rattle.words.specs.Words.{item_of, word_of}
+use Rattle.words.specs.Words.{item_of}
 use Rattle.words.specs.Steps.{has, may, in_range, listed, too_many, many, judged, and_then, worded}
 use Rattle.rules.specs.Rules.{Rule, Partial, outside, in_needs, in_shares, in_links, in_struck_needs, in_struck_things, in_makes, grown, numbers, written, tail, read_of, ended, go_on, run, scanned, encode}
 use Rattle.rules.proofs.Readings.{written_grown}
 use Rattle.words.proofs.Coding.{item_word}
-use Rattle.rules.proofs.Machine.{Passed, passed}
+use Rattle.rules.proofs.Machine.{passed}
 
 -- what a word that is read tells
 pub record Read (p : Partial) (w : ℕ) (q : Partial) (i : Item) : Type 0 where

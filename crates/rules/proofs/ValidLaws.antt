@@ -1,21 +1,21 @@
 -- what later layers take from valid rules
-use Rattle.std.proofs.Common.{◌≡◌, ℕ, zero, suc, ◌+◌, ◌<◌, ◌≤◌, Bool, true, false, cond, ◌&&◌, ◌||◌, eqb, ltb, leb, ◌⊎◌, List, [], ◌∷◌, ◌++◌, length, get_or, Ok, Err, Result, sym, refl, ap, ◌∙◌, subst, inl, inr, ⊎_elim, arith}
+use Rattle.std.proofs.Common.{◌≡◌, ℕ, zero, suc, ◌<◌, ◌≤◌, Bool, true, ◌&&◌, ltb, List, [], ◌∷◌, length, get_or, Ok, Err, Result, sym, refl, ap, ◌∙◌, subst, ⊎_elim, arith}
 use Rattle.std.specs.List.{AllByRecursion as All}
 use Rattle.std.proofs.ByRecursion.{All-get_or, All-weaker}
-use Rattle.std.proofs.lemmas.Bool.{and_parts, or_cases, eqb-true, ltb-true, leb-true, cases_eq, cases_Bool}
+use Rattle.std.proofs.lemmas.Bool.{and_parts, or_cases, ltb-true, cases_eq}
 use Rattle.std.proofs.lemmas.Bool.Decides.{nat_tests}
 use Rattle.words.specs.declared.items.PatternLink.{PatternLink}
 use Rattle.words.specs.declared.items.Share.{Share}
 use Rattle.words.specs.Steps.{target_in, link_in, share_in}
 use Rattle.rules.specs.declared.faults.SetFault.{SetFault}
 use Rattle.rules.specs.declared.sets.RuleSet.{RuleSet}
-use Rattle.rules.specs.Rules.{Ban, Rule, encode}
+use Rattle.rules.specs.Rules.{Ban, Rule}
 use Rattle.rules.specs.Formed.{FormedBan, FormedRule}
 use Rattle.rules.specs.Anchors.{some, anchors, anchored, is_shared}
 use Rattle.rules.specs.Valid.{ValidBan, ValidRule, ValidRules}
 use Rattle.rules.specs.Reading.{reading_of, is_read, accepted, count_of, rule_count, Says}
 use Rattle.rules.specs.Sets.{SetHere}
-use Rattle.rules.specs.Laws.{LinkRange, EachAnchored, share_at, BanLaws, RuleLaws}
+use Rattle.rules.specs.Laws.{LinkRange, BanLaws, RuleLaws}
 use Rattle.rules.proofs.Complete.{six}
 use Rattle.rules.proofs.Exactly.{each_exact}
 

@@ -1,6 +1,6 @@
 -- going over words that are written one element of a list after another
 use Rattle.std.proofs.Common.{◌≡◌, ℕ, zero, suc, ◌+◌, ◌-◌, ◌<◌, ◌≤◌, List, [], ◌∷◌, ◌++◌, length, get_or, take, drop, sym, refl, ap, ◌∙◌, subst, append_assoc, append-nil, arith, length-append, length-drop}
-use Rattle.std.proofs.lemmas.List.{drop_more, take_more, take_all, drop_all, drop-drop, drop_at}
+use Rattle.std.proofs.lemmas.List.{drop_more, take_more, take_all, drop_all}
 use Rattle.rules.proofs.WordKinds.{past_at}
 
 -- what holds of each element with those after it

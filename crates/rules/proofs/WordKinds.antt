@@ -1,21 +1,20 @@
 -- the kinds of written words, and where a written run ends
-use Rattle.std.proofs.Common.{◌≡◌, ℕ, zero, suc, ◌+◌, ◌-◌, ◌*◌, ◌/◌, ◌%◌, ◌^◌, ◌<◌, ◌≤◌, Bool, true, false, cond, ◌&&◌, ◌||◌, eqb, ltb, leb, List, [], ◌∷◌, ◌++◌, map, length, get_or, take, drop, Some, None, Option, sym, refl, ap, ◌∙◌, subst, append_assoc, append-nil, arith, length-append}
+use Rattle.std.proofs.Common.{◌≡◌, ℕ, suc, ◌+◌, ◌-◌, ◌/◌, ◌≤◌, true, ltb, List, [], ◌∷◌, ◌++◌, map, length, get_or, take, drop, Some, None, Option, sym, refl, ap, ◌∙◌, arith}
 use Rattle.std.proofs.lemmas.List.{get_or-drop, drop-drop, drop_at, take_at}
 use Rattle.std.proofs.ByRecursion.{All-append, All-weaker}
-use Rattle.std.proofs.lemmas.Bool.Decides.{nat_tests}
-use Rattle.std.proofs.lemmas.Bool.{ltb-true, leb-true, and_parts, eq-eqb, ne_eqb, or_left, or_right, or_from}
+use Rattle.std.proofs.lemmas.Bool.{ltb-true, leb-true}
 use Rattle.std.specs.List.{AllByRecursion as All}
 use Rattle.words.specs.declared.items.PatternLink.{PatternLink}
 use Rattle.words.specs.declared.items.Target.{Target}
 use Rattle.words.specs.declared.items.Target.TheVariants.{Variable, Mark}
 use Rattle.words.specs.declared.items.Share.{Share}
-use Rattle.words.specs.declared.items.Item.TheVariants.{Opens, Link, Bans, Shares, StrikesNeed, StrikesThing, Makes, Ends}
+use Rattle.words.specs.declared.items.Item.TheVariants.{Link, Bans, Shares, StrikesNeed, StrikesThing, Makes, Ends}
 use Rattle.words.specs.Words.{word_of, target_kind, link_of, share_of}
 use Rattle.words.specs.Steps.{link_in, share_in}
 use Rattle.words.proofs.Coding.{kind_of_word, link_of_word, share_of_word}
-use Rattle.rules.specs.Rules.{Ban, Making, Rule, rule_words, link_words, share_words, ban_words, bans_words, need_words, thing_words, makes_words}
-use Rattle.rules.specs.Formed.{FormedBan, FormedMaking, FormedRule}
-use Rattle.rules.specs.Runs.{within, span, end_of, part_of, part_end_by, part_end}
+use Rattle.rules.specs.Rules.{Ban, Making, link_words, share_words, ban_words, bans_words, need_words, thing_words, makes_words}
+use Rattle.rules.specs.Formed.{FormedBan, FormedMaking}
+use Rattle.rules.specs.Runs.{within, span, end_of}
 use Rattle.rules.proofs.Complete.{six, link_fits, share_fits}
 use Rattle.rules.proofs.Spans.{Kinds, Starts, span_all, in_kind, wider}
 

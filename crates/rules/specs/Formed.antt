@@ -1,8 +1,7 @@
 -- Rules that the first pass takes: counts and values in range, and nothing said twice.
-use Rattle.std.specs.Prelude.{◌≡◌, ℕ, ◌+◌, ◌<◌, ◌≤◌, Bool, true, false, cond, List, [], ◌∷◌, ◌++◌, map, length, Some, None, Option, nat_le, nat_lt}
+use Rattle.std.specs.Prelude.{◌≡◌, ℕ, ◌+◌, ◌<◌, ◌≤◌, true, false, List, [], ◌∷◌, length, Some, None, Option, nat_le, nat_lt}
 use Rattle.std.specs.List.{AllByRecursion as All}
 use Rattle.words.specs.declared.items.PatternLink.{PatternLink}
-use Rattle.words.specs.declared.items.Share.{Share}
 use Rattle.words.specs.Steps.{has, in_six, link_in, share_in}
 use Rattle.rules.specs.Rules.{Ban, Making, Rule, link_words, need_words, thing_words}
 

@@ -1,5 +1,5 @@
 -- Valid rules: what later layers rely on.
-use Rattle.std.specs.Prelude.{◌≡◌, ℕ, ◌≤◌, Bool, true, false, List, [], ◌∷◌, ◌++◌, length, Some, None, Option}
+use Rattle.std.specs.Prelude.{◌≡◌, ℕ, ◌≤◌, true, false, List, [], ◌∷◌, ◌++◌, length, Some, None, Option}
 use Rattle.std.specs.List.{AllByRecursion as All}
 use Rattle.words.specs.declared.items.Share.{Share}
 use Rattle.rules.specs.Rules.{Ban, Making, Rule, encode}

@@ -1,5 +1,5 @@
 -- One step of the reading, over numbers.
-use Rattle.std.specs.Prelude.{◌≡◌, ℕ, ◌+◌, ◌-◌, ◌*◌, ◌/◌, ◌%◌, ◌^◌, ◌<◌, ◌≤◌, Bool, true, false, cond, ◌&&◌, ◌||◌, List, [], ◌∷◌, length, Ok, Err, Result, ◌==◌, nat_le, nat_lt, slice_index_or}
+use Rattle.std.specs.Prelude.{ℕ, ◌+◌, ◌^◌, ◌<◌, ◌≤◌, Bool, true, false, cond, ◌&&◌, ◌||◌, List, [], ◌∷◌, Ok, Err, Result, ◌==◌, nat_le, nat_lt, slice_index_or}
 use Rattle.words.specs.declared.items.PatternLink.{PatternLink}
 use Rattle.words.specs.declared.items.Target.{Target}
 use Rattle.words.specs.declared.items.Target.TheVariants.{Variable, Mark}
@@ -10,11 +10,11 @@ use Rattle.words.specs.declared.faults.WordFault.{WordFault}
 use Rattle.words.specs.declared.faults.RuleFault.{RuleFault}
 use Rattle.words.specs.declared.faults.RuleFault.TheVariants.{Word, OutOfPlace, OutOfRange, Twice, TooMany}
 use Rattle.words.specs.declared.faults.Cause.{Cause}
-use Rattle.words.specs.declared.faults.Cause.TheVariants.{InRule, TooManyRules, TooManyWords}
+use Rattle.words.specs.declared.faults.Cause.TheVariants.{InRule, TooManyRules}
 use Rattle.words.specs.declared.stages.Stage.{Stage}
 use Rattle.words.specs.declared.stages.Stage.TheVariants.{Outside, Opened, Needs, BanOpened, BanReady, BanLinks, StruckNeeds, StruckThings, MakesOpened, Made}
 use Rattle.words.specs.declared.steps.State.{State}
-use Rattle.words.specs.Words.{item_of, word_of}
+use Rattle.words.specs.Words.{item_of}
 
 -- which words may follow at a stage
 abbrev pub column : Item → ℕ

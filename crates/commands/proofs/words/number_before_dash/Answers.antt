@@ -1,4 +1,4 @@
-use Rattle.std.proofs.Common.{Some, None, sym, ap, ◌∙◌}
+use Rattle.std.proofs.Common.{Some, None, ap, ◌∙◌}
 use Rattle.commands.specs.Words.{decimal}
 use Rattle.commands.proofs.Dashes.{dashed}
 use Rattle.commands.proofs.words.number_before_dash.Goals as goal

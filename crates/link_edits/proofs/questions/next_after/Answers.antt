@@ -1,4 +1,4 @@
-use Rattle.std.proofs.Common.{◌≡◌, ◌&&◌, sym, ap, ◌∙◌, subst}
+use Rattle.std.proofs.Common.{◌&&◌, sym, subst}
 use Rattle.links.specs.Answers.{Least}
 use Rattle.links.specs.Sets.{inside, member}
 use Rattle.link_edits.specs.Directions.{link_with}

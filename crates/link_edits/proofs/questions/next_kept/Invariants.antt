@@ -1,4 +1,4 @@
-use Rattle.std.proofs.Common.{◌≡◌, ℕ, ◌+◌, ◌-◌, ◌^◌, ◌<◌, ◌≤◌, false, not, ◌&&◌}
+use Rattle.std.proofs.Common.{◌≡◌, ℕ, ◌-◌, ◌^◌, ◌<◌, ◌≤◌, false, not, ◌&&◌}
 use Rattle.links.specs.Sets.{member}
 use Rattle.link_edits.specs.Directions.{link_with}
 use Rattle.link_edits.proofs.questions.next_kept.Given as goal

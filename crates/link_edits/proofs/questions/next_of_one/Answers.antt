@@ -1,4 +1,4 @@
-use Rattle.std.proofs.Common.{◌≡◌, ℕ, true, false, Some, sym, ap, ◌∙◌, subst, arith}
+use Rattle.std.proofs.Common.{ℕ, Some, sym, ap, ◌∙◌, subst, arith}
 use Rattle.ordered.specs.Order.{same}
 use Rattle.links.specs.Sets.{link_before}
 use Rattle.link_edits.specs.Directions.{link_with}

@@ -1,4 +1,4 @@
-use Rattle.std.proofs.Common.{sym, ◌∙◌, arith, rules}
+use Rattle.std.proofs.Common.{sym, arith}
 use Rattle.ordered.proofs.Laws.{rank_is, below_low, above_high}
 use Rattle.ordered.proofs.list.position.Goals as goal
 

@@ -1,6 +1,6 @@
-use Rattle.std.proofs.Common.{◌≡◌, sym, ap, ◌∙◌, arith}
+use Rattle.std.proofs.Common.{sym, ap, ◌∙◌, arith}
 use Rattle.words.specs.Words.{link_of}
-use Rattle.rules.specs.Anchors.{some, anchors}
+use Rattle.rules.specs.Anchors.{anchors}
 use Rattle.rules.proofs.Marking.{some_here, some_on, some_none}
 use Rattle.rules.proofs.anchors.has_anchor.Goals as goal
 

@@ -1,4 +1,4 @@
-use Rattle.std.proofs.Common.{◌≡◌, map, sym, ◌∙◌}
+use Rattle.std.proofs.Common.{map, sym, ◌∙◌}
 use Rattle.words.specs.Words.{link_of}
 use Rattle.rules.proofs.Marking.{anchored_stop, anchored_on}
 use Rattle.rules.proofs.anchors.is_anchored.Goals as goal

@@ -1,4 +1,4 @@
-use Rattle.std.proofs.Common.{◌≡◌, ◌∙◌, arith}
+use Rattle.std.proofs.Common.{◌∙◌, arith}
 use Rattle.rules.proofs.Marking.{shared_in, shared_out}
 use Rattle.rules.proofs.anchors.is_shared.Goals as goal
 

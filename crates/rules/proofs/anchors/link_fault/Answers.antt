@@ -1,4 +1,4 @@
-use Rattle.std.proofs.Common.{◌≡◌, map, sym, ap, ◌∙◌, arith}
+use Rattle.std.proofs.Common.{map, sym, ap, ◌∙◌}
 use Rattle.words.specs.Words.{link_of, share_of}
 use Rattle.words.specs.declared.faults.RuleFault.TheVariants.{LinksShared}
 use Rattle.rules.specs.Anchors.{joins_shared}

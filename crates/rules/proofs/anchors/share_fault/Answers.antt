@@ -1,4 +1,4 @@
-use Rattle.std.proofs.Common.{◌≡◌, sym, arith}
+use Rattle.std.proofs.Common.{sym}
 use Rattle.rules.proofs.Marking.{again_here, again_on, again_none}
 use Rattle.rules.proofs.anchors.share_fault.Goals as goal
 

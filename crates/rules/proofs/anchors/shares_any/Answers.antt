@@ -1,6 +1,6 @@
-use Rattle.std.proofs.Common.{◌≡◌, sym, ap, ◌∙◌, arith}
+use Rattle.std.proofs.Common.{sym, arith}
 use Rattle.words.specs.Words.{share_of}
-use Rattle.rules.specs.Anchors.{some, is_shared}
+use Rattle.rules.specs.Anchors.{is_shared}
 use Rattle.rules.proofs.Marking.{some_here, some_on, some_none}
 use Rattle.rules.proofs.anchors.shares_any.Goals as goal
 

@@ -1,4 +1,4 @@
-use Rattle.std.proofs.Common.{◌≡◌, Some, None, sym, refl}
+use Rattle.std.proofs.Common.{Some, None, sym, refl}
 use Rattle.rules.proofs.RuleMarks.{ban_unanchored, ban_unshared, ban_found, ban_links}
 use Rattle.rules.proofs.checking.ban_fault.Goals as goal
 

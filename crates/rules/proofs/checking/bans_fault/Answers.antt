@@ -1,4 +1,4 @@
-use Rattle.std.proofs.Common.{◌≡◌, ◌+◌, length, Some, None, sym, refl, arith}
+use Rattle.std.proofs.Common.{◌+◌, length, Some, None, refl, arith}
 use Rattle.rules.proofs.BanMarks.{bans_first, bans_end, bans_all, bans_hit, bans_miss}
 use Rattle.rules.proofs.checking.bans_fault.Goals as goal
 

@@ -1,9 +1,9 @@
-use Rattle.std.proofs.Common.{◌≡◌, ◌&&◌, map, sym, arith}
+use Rattle.std.proofs.Common.{◌&&◌, map, sym}
 use Rattle.words.specs.Words.{link_of}
 use Rattle.words.specs.declared.faults.RuleFault.TheVariants.{MadeAtStruck}
 use Rattle.rules.specs.Anchors.{touches}
 use Rattle.rules.specs.Runs.{within}
-use Rattle.rules.specs.Marks.{fault_if, first_mark, low_of, made_mark}
+use Rattle.rules.specs.Marks.{low_of}
 use Rattle.rules.proofs.Marking.{fault_here, fault_on, fault_none}
 use Rattle.rules.proofs.checking.first_made_at_struck.Goals as goal
 

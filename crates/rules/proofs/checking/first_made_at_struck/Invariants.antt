@@ -1,9 +1,5 @@
-use Rattle.std.proofs.Common.{◌≡◌, ◌+◌, ◌&&◌, map, drop}
-use Rattle.words.specs.Words.{link_of}
-use Rattle.words.specs.declared.faults.RuleFault.TheVariants.{MadeAtStruck}
-use Rattle.rules.specs.Anchors.{touches}
-use Rattle.rules.specs.Runs.{within}
-use Rattle.rules.specs.Marks.{fault_if, first_mark, low_of, made_mark}
+use Rattle.std.proofs.Common.{◌≡◌, ◌+◌, map, drop}
+use Rattle.rules.specs.Marks.{first_mark, low_of, made_mark}
 use Rattle.rules.proofs.checking.first_made_at_struck.Given as goal
 
 abbrev pub invariant-loop-i : goal.invariant-loop-i

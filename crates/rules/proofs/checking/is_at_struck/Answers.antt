@@ -1,4 +1,4 @@
-use Rattle.std.proofs.Common.{◌≡◌, false, ◌||◌, eqb, map, sym, ap, ◌∙◌}
+use Rattle.std.proofs.Common.{◌||◌, map, sym, ap, ◌∙◌}
 use Rattle.rules.specs.Anchors.{some, aims}
 use Rattle.rules.specs.Marks.{low_of}
 use Rattle.rules.proofs.RuleMarks.{touches_mark}

@@ -1,4 +1,4 @@
-use Rattle.std.proofs.Common.{◌≡◌, ◌%◌, eqb, get_or, arith}
+use Rattle.std.proofs.Common.{◌%◌, eqb, get_or, arith}
 use Rattle.std.proofs.lemmas.Bool.{eq-eqb, ne_eqb}
 use Rattle.rules.specs.Marks.{low_of}
 use Rattle.rules.proofs.Marking.{some_here, some_on, some_none}

@@ -1,4 +1,4 @@
-use Rattle.std.proofs.Common.{◌≡◌, ◌-◌, length, take, drop, refl, arith}
+use Rattle.std.proofs.Common.{◌-◌, length, take, drop, refl}
 use Rattle.rules.proofs.RuleMarks.{made_found}
 use Rattle.rules.proofs.checking.made_fault.Goals as goal
 

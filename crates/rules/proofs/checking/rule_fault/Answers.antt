@@ -1,4 +1,4 @@
-use Rattle.std.proofs.Common.{◌≡◌, sym, refl}
+use Rattle.std.proofs.Common.{sym}
 use Rattle.rules.proofs.RuleMarks.{rule_unanchored, rule_found, rule_last}
 use Rattle.rules.proofs.checking.rule_fault.Goals as goal
 

@@ -1,4 +1,4 @@
-use Rattle.std.proofs.Common.{◌≡◌, ◌/◌, ap, ◌∙◌, arith}
+use Rattle.std.proofs.Common.{◌/◌, ap, arith}
 use Rattle.std.proofs.lemmas.List.{get_or_past}
 use Rattle.rules.specs.Runs.{part_of}
 use Rattle.rules.proofs.parts.cut.Goals as goal

@@ -1,4 +1,4 @@
-use Rattle.std.proofs.Common.{◌≡◌, Some, None, refl, ap, arith}
+use Rattle.std.proofs.Common.{Some, None, refl, ap, arith}
 use Rattle.rules.specs.Sets.{passed}
 use Rattle.rules.proofs.SetRuns.{faults_end, faults_all, faults_hit, faults_miss}
 use Rattle.rules.proofs.reading.check.Goals as goal

@@ -1,6 +1,5 @@
-use Rattle.std.proofs.Common.{◌≡◌, length, sym, refl, ap, ◌∙◌, subst, arith}
+use Rattle.std.proofs.Common.{refl, arith}
 use Rattle.std.proofs.lemmas.Result.{err_from_is_err_and}
-use Rattle.rules.specs.Sets.{ReadAs}
 use Rattle.rules.proofs.Exactly.{each_exact, each_apart}
 use Rattle.rules.proofs.Closing.{rule_told}
 use Rattle.rules.proofs.ValidLaws.{lawful}

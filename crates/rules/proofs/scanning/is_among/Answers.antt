@@ -1,6 +1,5 @@
-use Rattle.std.proofs.Common.{◌≡◌, true, eqb, get_or, sym, ◌∙◌, arith, rules}
-use Rattle.std.proofs.lemmas.List.{at_drop_more, at_drop_all}
-use Rattle.std.proofs.lemmas.Bool.{eq-eqb, ne_eqb}
+use Rattle.std.proofs.Common.{sym, ◌∙◌, arith}
+use Rattle.std.proofs.lemmas.List.{at_drop_all}
 use Rattle.words.specs.Steps.{has}
 use Rattle.rules.proofs.Readings.{has_here, has_on}
 use Rattle.rules.proofs.scanning.is_among.Goals as goal

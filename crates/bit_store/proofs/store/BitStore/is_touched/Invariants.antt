@@ -1,4 +1,4 @@
-use Rattle.std.proofs.Common.{◌≡◌, ℕ, ◌<◌, ◌≤◌, false}
+use Rattle.std.proofs.Common.{◌≡◌, ℕ, ◌<◌, false}
 use Rattle.links.specs.Sets.{member, link_of}
 use Rattle.bit_store.specs.Places.{links_in}
 use Rattle.bit_store.proofs.store.BitStore.is_touched.Given as goal

@@ -1,4 +1,4 @@
-use Rattle.std.proofs.Common.{◌≡◌, ℕ, ◌+◌, ◌-◌, ◌*◌, ◌<◌, sym, ap, subst}
+use Rattle.std.proofs.Common.{ℕ, ◌+◌, ◌-◌, ◌*◌, ◌<◌, sym, ap, subst}
 use Rattle.bit_store.specs.Places.{place, places}
 use Rattle.bit_store.proofs.Placing.{place_below}
 use Rattle.bit_store.proofs.store.BitStore.place_of.Goals as goal

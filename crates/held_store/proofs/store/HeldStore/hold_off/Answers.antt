@@ -1,4 +1,4 @@
-use Rattle.std.proofs.Common.{◌≡◌, sym, ap, ◌∙◌, arith}
+use Rattle.std.proofs.Common.{sym, ap, ◌∙◌, arith}
 use Rattle.link_edits.proofs.Steps.{off_step}
 use Rattle.held_store.specs.Items.{items}
 use Rattle.held_store.specs.Meaning.{layer_of}

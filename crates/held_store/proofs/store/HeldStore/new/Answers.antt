@@ -1,5 +1,4 @@
-use Rattle.std.proofs.Common.{◌≡◌, sym, refl, subst}
-use Rattle.held_store.specs.Items.{items}
+use Rattle.std.proofs.Common.{sym, refl, subst}
 use Rattle.held_store.specs.Layers.{Fresh}
 use Rattle.held_store.proofs.Changes.{fresh_none}
 use Rattle.held_store.proofs.Layers.{layer_is}

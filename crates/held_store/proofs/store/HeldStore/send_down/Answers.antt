@@ -1,4 +1,4 @@
-use Rattle.std.proofs.Common.{◌≡◌, ◌≤◌, length, sym, ap, ◌∙◌, subst}
+use Rattle.std.proofs.Common.{◌≤◌, length, sym, ap, ◌∙◌, subst}
 use Rattle.link_edits.specs.Edits.{edited}
 use Rattle.held_store.specs.Items.{items}
 use Rattle.held_store.proofs.store.HeldStore.send_down.Goals as goal

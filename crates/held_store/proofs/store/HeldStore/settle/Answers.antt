@@ -1,5 +1,4 @@
-use Rattle.std.proofs.Common.{◌≡◌, length, sym, refl, ap, ◌∙◌, subst, arith}
-use Rattle.held_store.specs.Items.{items}
+use Rattle.std.proofs.Common.{◌≡◌, sym, refl, ap, ◌∙◌, subst}
 use Rattle.held_store.specs.Layers.{Fresh, nothing_held, held_in, set_in}
 use Rattle.held_store.specs.Meaning.{layer_of}
 use Rattle.held_store.proofs.Changes.{fresh_none}

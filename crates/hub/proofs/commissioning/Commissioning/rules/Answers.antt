@@ -1,4 +1,4 @@
-use Rattle.std.proofs.Common.{◌≡◌, ◌∙◌}
+use Rattle.std.proofs.Common.{◌∙◌}
 use Rattle.hub.specs.Calls.{held_words}
 use Rattle.rules.proofs.ValidLaws.{accepted_says, set_here}
 use Rattle.hub.proofs.commissioning.Commissioning.rules.Goals as goal

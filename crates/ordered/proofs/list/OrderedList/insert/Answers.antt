@@ -1,4 +1,4 @@
-use Rattle.std.proofs.Common.{◌≡◌, ◌+◌, true, take, sym, ap, ◌∙◌, arith}
+use Rattle.std.proofs.Common.{◌≡◌, ◌+◌, true, take, ap, ◌∙◌, arith}
 use Rattle.ordered.specs.Items.{items}
 use Rattle.ordered.specs.Order.{ascending, placed}
 use Rattle.ordered.proofs.Laws.{ascending_placed}

@@ -1,4 +1,4 @@
-use Rattle.std.proofs.Common.{◌≡◌, ◌+◌, length, take, drop, sym, subst}
+use Rattle.std.proofs.Common.{◌+◌, length, take, drop, sym, subst}
 use Rattle.rules.specs.Rules.{bans_words}
 use Rattle.rules.specs.Handed.{BanIs}
 use Rattle.rules.proofs.BanRuns.{ban_handed, no_ban_left}

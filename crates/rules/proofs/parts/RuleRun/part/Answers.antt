@@ -1,4 +1,4 @@
-use Rattle.std.proofs.Common.{◌+◌, length, take, arith}
+use Rattle.std.proofs.Common.{◌+◌, length, take}
 use Rattle.rules.specs.Parts.{pieces, pieces_words}
 use Rattle.rules.proofs.PartRuns.{part_handed, none_left}
 use Rattle.rules.proofs.parts.RuleRun.part.Goals as goal

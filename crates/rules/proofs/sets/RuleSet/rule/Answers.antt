@@ -1,4 +1,4 @@
-use Rattle.std.proofs.Common.{◌≡◌, length, take, refl, arith}
+use Rattle.std.proofs.Common.{length, take, refl, arith}
 use Rattle.rules.specs.Rules.{encode}
 use Rattle.rules.proofs.SetRuns.{rule_handed, no_rule_left}
 use Rattle.rules.proofs.sets.RuleSet.rule.Goals as goal

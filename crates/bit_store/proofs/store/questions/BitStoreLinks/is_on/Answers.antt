@@ -1,4 +1,4 @@
-use Rattle.std.proofs.Common.{sym, ap, ◌∙◌, arith}
+use Rattle.std.proofs.Common.{sym, ap, ◌∙◌}
 use Rattle.bit_store.specs.Places.{bit_on}
 use Rattle.bit_store.proofs.Kept.{member_links, member_links_outside}
 use Rattle.bit_store.proofs.store.questions.BitStoreLinks.is_on.Goals as goal

@@ -1,4 +1,4 @@
-use Rattle.std.proofs.Common.{◌≡◌, ℕ, ◌+◌, ◌*◌, ◌<◌, sym, ap, ◌∙◌, arith}
+use Rattle.std.proofs.Common.{ℕ, ◌+◌, ◌*◌, sym, ap, ◌∙◌, arith}
 use Rattle.bit_store.proofs.Runs.{places_few}
 use Rattle.bit_store.proofs.Columns.{column_none, column_outside, column_below, column_found, column_more, column_end}
 use Rattle.bit_store.proofs.store.questions.BitStoreLinks.next_source.Goals as goal

@@ -1,4 +1,4 @@
-use Rattle.std.proofs.Common.{◌≡◌, ℕ, ◌+◌, ◌-◌, Some, None, ap, subst, arith}
+use Rattle.std.proofs.Common.{ℕ, ◌+◌, ◌-◌, Some, None, subst, arith}
 use Rattle.bit_store.specs.Places.{LeastBelow, bit_on}
 use Rattle.bit_store.proofs.Placing.{target_below, run_below}
 use Rattle.bit_store.proofs.Runs.{places_few, next_outside, next_none, next_some}

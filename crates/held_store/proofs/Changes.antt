@@ -6,7 +6,8 @@ use Rattle.ordered.specs.Order.{same}
 use Rattle.ordered.proofs.Members.{has_without}
 use Rattle.links.specs.declared.link.Link.{Link}
 use Rattle.links.specs.Sets.{link_before, member, removed, inside}
-use Rattle.links.specs.Order.{link_order, same_is}
+use Rattle.links.specs.Order.{link_order}
+use Rattle.links.proofs.Order.{same_is}
 use Rattle.link_edits.proofs.Edits.{member_edited}
 use Rattle.link_edits.proofs.Loops.{member_push}
 use Rattle.held_store.specs.Layers.{Layer, Fresh, set_in, held_in, nothing_held, sent_down, held_on, held_off, back_off, back_on, below_off, on_held, off_held, turned_on, turned_off}

@@ -6,7 +6,8 @@ use Rattle.ordered.proofs.Laws.{same_refl, ascending_placed, ascending_without}
 use Rattle.ordered.proofs.Members.{has_placed, has_without}
 use Rattle.links.specs.declared.link.Link.{Link}
 use Rattle.links.specs.Sets.{link_before, rising, member, inserted, removed, inside}
-use Rattle.links.specs.Order.{link_order, same_is, same_members}
+use Rattle.links.specs.Order.{link_order}
+use Rattle.links.proofs.Order.{same_is, same_members}
 use Rattle.link_edits.proofs.Edits.{member_edited, rising_edited}
 use Rattle.link_edits.proofs.Loops.{member_push}
 use Rattle.held_store.specs.Layers.{Layer, set_in, held_in, sent_down, held_on, held_off, back_off, back_on, below_off, on_held, off_held, turned_on, turned_off}

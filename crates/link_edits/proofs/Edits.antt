@@ -8,7 +8,8 @@ use Rattle.ordered.proofs.Laws.{ascending_without, ascending_placed, without_non
 use Rattle.ordered.proofs.Members.{has_placed, has_without, length_placed, length_without}
 use Rattle.links.specs.declared.link.Link.{Link}
 use Rattle.links.specs.Sets.{link_before, rising, member, inserted, removed, inside, all_inside, link_of}
-use Rattle.links.specs.Order.{link_order, same_is}
+use Rattle.links.specs.Order.{link_order}
+use Rattle.links.proofs.Order.{same_is}
 use Rattle.links.proofs.Inside.{all_inserted, all_removed}
 use Rattle.link_edits.specs.declared.direction.Direction.{Direction}
 use Rattle.link_edits.specs.declared.direction.Direction.TheVariants.{Outgoing, Incoming}

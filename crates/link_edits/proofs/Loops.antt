@@ -3,7 +3,8 @@ use Rattle.std.proofs.Common.{◌≡◌, ℕ, ◌+◌, ◌<◌, ◌≤◌, Bool,
 use Rattle.std.proofs.lemmas.Bool.{or_left, and_from, and_parts, both_ways, cases_Bool}
 use Rattle.std.proofs.lemmas.List.{drop_more, take_more}
 use Rattle.ordered.proofs.Laws.{same_refl}
-use Rattle.links.specs.Order.{link_order, same_is}
+use Rattle.links.specs.Order.{link_order}
+use Rattle.links.proofs.Order.{same_is}
 use Rattle.ordered.specs.Order.{same}
 use Rattle.links.specs.declared.link.Link.{Link}
 use Rattle.links.specs.Answers.{Least}

@@ -1,3 +1,4 @@
 pub mod Inside
+pub mod Order
 pub mod Switching
 pub mod Touching

@@ -1,11 +1,8 @@
--- The order of links is a total one, and its key is the whole link.
-use Rattle.std.specs.Prelude.{◌≡◌, ℕ, true, false, List}
-use Rattle.std.proofs.Common.{ap, ◌∙◌, arith}
+-- The order of links is a total one.
+use Rattle.std.proofs.Common.{arith}
 use Rattle.std.proofs.lemmas.Bool.Decides.{nat_tests}
-use Rattle.ordered.specs.Order.{KeyOrder, Exact, same}
-use Rattle.ordered.proofs.Laws as laws
-use Rattle.links.specs.declared.link.Link.{Link}
-use Rattle.links.specs.Sets.{link_of, link_before, rising, member}
+use Rattle.ordered.specs.Order.{KeyOrder}
+use Rattle.links.specs.Sets.{link_before}
 
 pub link_order : KeyOrder link_before
 link_order = record {
@@ -13,25 +10,3 @@ link_order = record {
   transitive = λ x y z h k. grind (arith, nat_tests);
   alike = λ x y z h k. (grind (arith, nat_tests), grind (arith, nat_tests));
 }
-
-source_same : (x y : Link) → link_before x y ≡ false → link_before y x ≡ false → x.source ≡ y.source
-source_same x y h k = grind (arith, nat_tests)
-
-label_same : (x y : Link) → link_before x y ≡ false → link_before y x ≡ false → x.label ≡ y.label
-label_same x y h k = grind (arith, nat_tests)
-
-target_same : (x y : Link) → link_before x y ≡ false → link_before y x ≡ false → x.target ≡ y.target
-target_same x y h k = grind (arith, nat_tests)
-
-pub link_exact : Exact link_before
-link_exact x y h k =
-    ap (λ (v : ℕ). link_of v x.label x.target) (source_same x y h k)
-    ∙ ap (λ (v : ℕ). link_of y.source v x.target) (label_same x y h k)
-    ∙ ap (λ (v : ℕ). link_of y.source y.label v) (target_same x y h k)
-
--- links of one key are one link
-pub same_is : (x y : Link) → same link_before x y ≡ true → x ≡ y
-same_is = laws.same_is link_before link_order link_exact
-
-pub same_members : (xs ys : List Link) → rising xs ≡ true → rising ys ≡ true → ((l : Link) → member l xs ≡ member l ys) → xs ≡ ys
-same_members = laws.same_members link_before link_order link_exact

@@ -1,7 +1,7 @@
 -- the runs of one rule and of one ban
 use Rattle.std.proofs.Common.{◌≡◌, ℕ, zero, suc, ◌+◌, ◌-◌, ◌^◌, ◌<◌, ◌≤◌, min, List, [], ◌∷◌, ◌++◌, map, length, take, drop, Some, None, Option, sym, refl, ap, ◌∙◌, subst, append-nil, arith, length-append, length-drop}
 use Rattle.std.proofs.lemmas.List.{length-map, take_rest, drop_all}
-use Rattle.std.specs.List.{AllByRecursion as All}
+use Rattle.std.specs.List.{AllByRecursion}
 use Rattle.std.proofs.ByRecursion.{All-drop}
 use Rattle.words.specs.declared.items.Item.TheVariants.{Opens, Ends, Shares, Link}
 use Rattle.words.specs.Words.{word_of, link_of, share_of}
@@ -85,7 +85,7 @@ module _ (place : ℕ) (ws : List ℕ) (r : Rule) (h : RuleHere place ws r) (fro
 
 -- bans among the parts
 abbrev NoBan : List Piece → Type 0
-NoBan ps = All (λ p. piece_number p ≡ 1 → ⊥) ps
+NoBan ps = AllByRecursion (λ p. piece_number p ≡ 1 → ⊥) ps
 
 no_bans : (sn st : List ℕ) (m : Option Making) → NoBan (strike_pieces sn st ++ make_pieces m)
 no_bans [] [] None = tt
@@ -129,7 +129,7 @@ bans_before bs ps zero h = refl
 bans_before [] ps (suc i) h = absurd (omega arith)
 bans_before (b ∷ bs) ps (suc i) h = ap (λ z. ban_words b ++ z) (bans_before bs ps i (omega arith))
 
-ban_is : (n p q : ℕ) (bs : List Ban) (o : Option BanRun) → n ≤ 6 → All (FormedBan n) bs → (0 < length bs → p ≡ q) → Found p bs o → BanIs n q bs o
+ban_is : (n p q : ℕ) (bs : List Ban) (o : Option BanRun) → n ≤ 6 → AllByRecursion (FormedBan n) bs → (0 < length bs → p ≡ q) → Found p bs o → BanIs n q bs o
 ban_is n p q [] None h v e f = tt
 ban_is n p q [] (Some x) h v e f = f
 ban_is n p q (b ∷ bs) None h v e f = f

@@ -1,6 +1,6 @@
 -- rules are valid exactly when no word has a fault of the second pass
 use Rattle.std.proofs.Common.{◌≡◌, ℕ, ◌+◌, Bool, true, false, cond, List, [], ◌∷◌, ◌++◌, map, length, Some, None, Option, refl, ap, ◌∙◌, arith}
-use Rattle.std.specs.List.{AllByRecursion as All}
+use Rattle.std.specs.List.{AllByRecursion}
 use Rattle.std.proofs.ByRecursion.{All-append}
 use Rattle.words.specs.declared.items.PatternLink.{PatternLink}
 use Rattle.words.specs.declared.items.Share.{Share}
@@ -13,7 +13,7 @@ use Rattle.rules.specs.Marks.{fault_if, or_else, placed, first_mark, share_marks
 use Rattle.rules.specs.Valid.{SharedOnce, ValidBan, ValidMaking, ValidRule}
 
 abbrev Clean : List (Option RuleFault) → Type 0
-Clean ms = All (λ m. m ≡ None) ms
+Clean ms = AllByRecursion (λ m. m ≡ None) ms
 
 clean_first : (place : ℕ) (ms : List (Option RuleFault)) → Clean ms → first_mark place ms ≡ None
 clean_first place [] h = refl
@@ -40,11 +40,11 @@ fault_no false f h = refl
 fault_no true f h = let z : ◌≡◌ {A = ℕ} 0 1 = cc in absurd (omega arith)
 
 module _ (t : PatternLink → Bool) (f : RuleFault) where
-  links_clean : (ls : List PatternLink) → All (λ l. t l ≡ false) ls → Clean (map (λ l. fault_if (t l) f) ls)
+  links_clean : (ls : List PatternLink) → AllByRecursion (λ l. t l ≡ false) ls → Clean (map (λ l. fault_if (t l) f) ls)
   links_clean [] h = tt
   links_clean (l ∷ ls) h = (no_fault (t l) f h.0, links_clean ls h.1)
 
-  clean_links : (ls : List PatternLink) → Clean (map (λ l. fault_if (t l) f) ls) → All (λ l. t l ≡ false) ls
+  clean_links : (ls : List PatternLink) → Clean (map (λ l. fault_if (t l) f) ls) → AllByRecursion (λ l. t l ≡ false) ls
   clean_links [] h = tt
   clean_links (l ∷ ls) h = (fault_no (t l) f h.0, clean_links ls h.1)
 
@@ -73,11 +73,11 @@ clean_ban b h =
     let k = clean_parts (share_marks [] b.shares) (map (λ l. fault_if (joins_shared b.shares l) LinksShared) b.links) h.1 in
     record { anchored = o.0; shares = s.0; once = clean_shares [] b.shares k.0; links = clean_links (joins_shared b.shares) LinksShared b.links k.1 }
 
-bans_clean : (bs : List Ban) → All ValidBan bs → Clean (bans_marks bs)
+bans_clean : (bs : List Ban) → AllByRecursion ValidBan bs → Clean (bans_marks bs)
 bans_clean [] v = tt
 bans_clean (b ∷ bs) v = clean_join (ban_marks b) (bans_marks bs) (ban_clean b v.0) (bans_clean bs v.1)
 
-clean_bans : (bs : List Ban) → Clean (bans_marks bs) → All ValidBan bs
+clean_bans : (bs : List Ban) → Clean (bans_marks bs) → AllByRecursion ValidBan bs
 clean_bans [] h = tt
 clean_bans (b ∷ bs) h = let k = clean_parts (ban_marks b) (bans_marks bs) h in (clean_ban b k.0, clean_bans bs k.1)
 
@@ -129,13 +129,13 @@ none_in : (n : ℕ) (m : Option (ℕ × RuleFault)) → in_rule n m ≡ None →
 none_in n None h = refl
 none_in n (Some m) h = let z : ◌≡◌ {A = ℕ} 0 1 = cc in absurd (omega arith)
 
-pub rules_clean : (n place : ℕ) (rs : List Rule) → All ValidRule rs → second_fault n place rs ≡ None
+pub rules_clean : (n place : ℕ) (rs : List Rule) → AllByRecursion ValidRule rs → second_fault n place rs ≡ None
 rules_clean n place [] v = refl
 rules_clean n place (r ∷ rs) v =
     ap (λ z. or_else (in_rule n z) (second_fault (n + 1) (place + length (rule_words r)) rs)) (clean_first place (rule_marks r) (rule_clean r v.0))
     ∙ rules_clean (n + 1) (place + length (rule_words r)) rs v.1
 
-pub clean_rules : (n place : ℕ) (rs : List Rule) → All FormedRule rs → second_fault n place rs ≡ None → All ValidRule rs
+pub clean_rules : (n place : ℕ) (rs : List Rule) → AllByRecursion FormedRule rs → second_fault n place rs ≡ None → AllByRecursion ValidRule rs
 clean_rules n place [] f h = tt
 clean_rules n place (r ∷ rs) f h =
     let k = none_else (in_rule n (first_mark place (rule_marks r))) (second_fault (n + 1) (place + length (rule_words r)) rs) h in (

@@ -4,7 +4,7 @@ use lib.Seq.{take-append-add}
 use Rattle.std.proofs.lemmas.List.{length_push, length-map, take_at, take-append-le}
 use Rattle.std.proofs.ByRecursion.{All-take}
 use Rattle.std.proofs.lemmas.Bool.{and_parts, leb-true, ne_eqb, le-ltb}
-use Rattle.std.specs.List.{AllByRecursion as All}
+use Rattle.std.specs.List.{AllByRecursion}
 use Rattle.words.specs.declared.items.Item.{Item}
 use Rattle.words.specs.declared.items.Item.TheVariants.{Opens, Link, Bans, Shares, StrikesNeed, StrikesThing, Makes, Ends}
 use Rattle.words.specs.declared.items.Target.{Target}
@@ -166,7 +166,7 @@ second_step r rs pre n at f None v a e m s k =
     let g : n + 1 ≡ ends w = let z = ends_append pre (rule_words r) in let y = rule_ends_one r v in omega arith in
     k w (n + 1) (at + length (rule_words r)) l g s ∙ ap (λ z. ends (take f.place z)) (append_assoc pre (rule_words r) (encode rs))
 
-second_rule : (rs : List Rule) (pre : List ℕ) (n at : ℕ) (f : SetFault) → All FormedRule rs → at ≡ length pre → n ≡ ends pre → second_fault n at rs ≡ Some f → f.rule ≡ ends (take f.place (pre ++ encode rs))
+second_rule : (rs : List Rule) (pre : List ℕ) (n at : ℕ) (f : SetFault) → AllByRecursion FormedRule rs → at ≡ length pre → n ≡ ends pre → second_fault n at rs ≡ Some f → f.rule ≡ ends (take f.place (pre ++ encode rs))
 second_rule [] pre n at f v a e s = let z : ◌≡◌ {A = ℕ} 0 1 = cc in absurd (omega arith)
 second_rule (r ∷ rs) pre n at f v a e s = second_step r rs pre n at f (first_mark at (rule_marks r)) v.0 a e refl s (λ before m a. second_rule rs before m a f v.1)
 

@@ -1,6 +1,6 @@
 -- what is written is read
 use Rattle.std.proofs.Common.{◌≡◌, ℕ, ◌+◌, ◌<◌, ◌≤◌, true, false, cond, ◌&&◌, eqb, ltb, leb, List, [], ◌∷◌, ◌++◌, map, length, Some, None, Ok, Option, sym, refl, ap, ◌∙◌, subst, append_assoc, append-nil, arith, length-append}
-use Rattle.std.specs.List.{AllByRecursion as All}
+use Rattle.std.specs.List.{AllByRecursion}
 use Rattle.std.proofs.lemmas.List.{length_push}
 use Rattle.std.proofs.lemmas.Bool.{and_parts, or_parts, or_from, lt-leb, ltb-true, leb-true, eqb-false, ne_eqb, eq-eqb, and_left}
 use Rattle.words.specs.declared.items.PatternLink.{PatternLink}
@@ -42,7 +42,7 @@ sections : {X : Type 0} (f : X → ℕ) (P : List X → Partial) (all : List X) 
 sections f P all step xs [] e = ap P (sym (e ∙ append-nil xs))
 sections f P all step xs (y ∷ ys) e = (P (xs ++ y ∷ []), step xs y ys e, sections f P all step (xs ++ y ∷ []) ys (e ∙ sym (append_assoc xs (y ∷ []) ys)))
 
-all_mid : {X : Type 0} (Q : X → Type 0) (xs : List X) (y : X) (ys : List X) → All Q (xs ++ y ∷ ys) → Q y
+all_mid : {X : Type 0} (Q : X → Type 0) (xs : List X) (y : X) (ys : List X) → AllByRecursion Q (xs ++ y ∷ ys) → Q y
 all_mid Q [] y ys h = h.0
 all_mid Q (x ∷ xs) y ys h = all_mid Q xs y ys h.1
 
@@ -83,7 +83,7 @@ module _ (P : List PatternLink → Partial) (limit most : ℕ)
   links_reach ls v h =
       sections (λ l. word_of (Link l)) P ls
       (λ xs y ys e.
-      let r : link_in limit y ≡ true = all_mid (λ l. link_in limit l ≡ true) xs y ys (subst (All (λ l. link_in limit l ≡ true)) e v.ranges) in
+      let r : link_in limit y ≡ true = all_mid (λ l. link_in limit l ≡ true) xs y ys (subst (AllByRecursion (λ l. link_in limit l ≡ true)) e v.ranges) in
       let o : has (word_of (Link y)) (tail (P xs)) ≡ false = ap (has (word_of (Link y))) (tails xs) ∙ distinct_mid (λ l. word_of (Link l)) xs y ys (subst (λ z. Distinct (link_words z)) e v.once) in
       let k : length xs < most = short xs y ys ls most e v.few in
       let t : leb (numbers (P xs)).most (numbers (P xs)).seen ≡ false = lt-leb (numbers (P xs)).most (numbers (P xs)).seen (omega (arith, mosts xs, seens xs)) in
@@ -114,7 +114,7 @@ module _ (h : Head) (m : ℕ) (b : in_six m ≡ true) (v : h.variables ≤ 256) 
   abbrev sharing : List Share → Partial
   sharing xs = cond (eqb (length xs) m) (in_links h m xs []) (in_shares h m xs)
 
-  shares_reach : (ss : List Share) → length ss ≡ m → All (λ s. share_in h.variables s ≡ true) ss → Reach (in_shares h m []) (share_words ss) (in_links h m ss [])
+  shares_reach : (ss : List Share) → length ss ≡ m → AllByRecursion (λ s. share_in h.variables s ≡ true) ss → Reach (in_shares h m []) (share_words ss) (in_links h m ss [])
   shares_reach ss l r =
       let lo : 1 ≤ m = (six m b).0 in
       let z : eqb 0 m ≡ false = ne_eqb 0 m (λ e. omega arith) in
@@ -126,7 +126,7 @@ module _ (h : Head) (m : ℕ) (b : in_six m ≡ true) (v : h.variables ≤ 256) 
       (λ xs x ys e.
       let k : length xs < m = short xs x ys ss m e (omega arith) in
       let q : eqb (length xs) m ≡ false = ne_eqb (length xs) m (λ e. omega arith) in
-      let g : share_in h.variables x ≡ true = all_mid (λ s. share_in h.variables s ≡ true) xs x ys (subst (All (λ s. share_in h.variables s ≡ true)) e r) in
+      let g : share_in h.variables x ≡ true = all_mid (λ s. share_in h.variables s ≡ true) xs x ys (subst (AllByRecursion (λ s. share_in h.variables s ≡ true)) e r) in
       ap (λ t. read_of (cond t (in_links h m xs []) (in_shares h m xs)) (word_of (Shares x))) q
       ∙ read_ok (in_shares h m xs) (Shares x) (share_fits h.variables x v g) refl g refl refl
       ∙ ap (λ t. Ok (cond (eqb t m) (in_links h m (xs ++ x ∷ []) []) (in_shares h m (xs ++ x ∷ [])))) (sym (length_push xs x)))
@@ -184,7 +184,7 @@ ban_reach p h b r o n f v =
           (ban_links_reach h b.variables b.shares b.links v.links (omega arith)),
     )
 
-bans_reach : (bs : List Ban) (p : Partial) (h : Head) → Ready p h [] [] → Open p → h.variables ≤ 6 → length h.bans + length bs ≤ 4 → All (FormedBan h.variables) bs → (q : Partial) × Reach p (bans_words bs) q × Ready q (plus h bs) [] [] × Open q
+bans_reach : (bs : List Ban) (p : Partial) (h : Head) → Ready p h [] [] → Open p → h.variables ≤ 6 → length h.bans + length bs ≤ 4 → AllByRecursion (FormedBan h.variables) bs → (q : Partial) × Reach p (bans_words bs) q × Ready q (plus h bs) [] [] × Open q
 bans_reach [] p h r o n f v = (p, refl, subst (λ t. Ready p (record { rules = h.rules; variables = h.variables; needs = h.needs; bans = t }) [] []) (sym (append-nil h.bans)) r, o)
 bans_reach (b ∷ bs) p h r o n f v =
     let q = in_links h b.variables b.shares b.links in
@@ -200,7 +200,7 @@ bans_reach (b ∷ bs) p h r o n f v =
 strike_fits : (n b k : ℕ) → n ≡ b → ltb k b ≡ true → ltb k n ≡ true
 strike_fits n b k e h = ap (ltb k) e ∙ h
 
-needs_struck : (sn : List ℕ) (p : Partial) (h : Head) → Ready p h [] [] → Open p → length h.needs ≤ 12 → All (λ k. ltb k (length h.needs) ≡ true) sn → Distinct (need_words sn) → (q : Partial) × Reach p (need_words sn) q × Ready q h sn [] × Things q
+needs_struck : (sn : List ℕ) (p : Partial) (h : Head) → Ready p h [] [] → Open p → length h.needs ≤ 12 → AllByRecursion (λ k. ltb k (length h.needs) ≡ true) sn → Distinct (need_words sn) → (q : Partial) × Reach p (need_words sn) q × Ready q h sn [] × Things q
 needs_struck [] p h r o f v d = (p, refl, r, o.things)
 needs_struck (k ∷ ks) p h r o f v d =
     let a : read_of p (word_of (StrikesNeed k)) ≡ Ok (in_struck_needs h (k ∷ [])) =
@@ -209,7 +209,7 @@ needs_struck (k ∷ ks) p h r o f v d =
     let b : Reach (in_struck_needs h (k ∷ [])) (need_words ks) (in_struck_needs h (k ∷ ks)) =
     sections (λ k. word_of (StrikesNeed k)) (in_struck_needs h) (k ∷ ks)
     (λ xs y ys e.
-    let g : ltb y (length h.needs) ≡ true = all_mid (λ k. ltb k (length h.needs) ≡ true) xs y ys (subst (All (λ k. ltb k (length h.needs) ≡ true)) e v) in
+    let g : ltb y (length h.needs) ≡ true = all_mid (λ k. ltb k (length h.needs) ≡ true) xs y ys (subst (AllByRecursion (λ k. ltb k (length h.needs) ≡ true)) e v) in
     read_ok (in_struck_needs h xs) (StrikesNeed y) (let z = ltb-true y (length h.needs) g in omega arith) refl g (distinct_mid (λ k. word_of (StrikesNeed k)) xs y ys (subst (λ t. Distinct (need_words t)) e d)) refl)
     (k ∷ []) ks refl in (
       in_struck_needs h (k ∷ ks),
@@ -218,7 +218,7 @@ needs_struck (k ∷ ks) p h r o f v d =
       record { may = λ _. refl; first = refl },
     )
 
-things_struck : (st : List ℕ) (p : Partial) (h : Head) (sn : List ℕ) → Ready p h sn [] → Things p → h.variables ≤ 6 → All (λ k. ltb k h.variables ≡ true) st → Distinct (thing_words st) → (q : Partial) × Reach p (thing_words st) q × Ready q h sn st
+things_struck : (st : List ℕ) (p : Partial) (h : Head) (sn : List ℕ) → Ready p h sn [] → Things p → h.variables ≤ 6 → AllByRecursion (λ k. ltb k h.variables ≡ true) st → Distinct (thing_words st) → (q : Partial) × Reach p (thing_words st) q × Ready q h sn st
 things_struck [] p h sn r o f v d = (p, refl, r)
 things_struck (k ∷ ks) p h sn r o f v d =
     let a : read_of p (word_of (StrikesThing k)) ≡ Ok (in_struck_things h sn (k ∷ [])) =
@@ -227,7 +227,7 @@ things_struck (k ∷ ks) p h sn r o f v d =
     let b : Reach (in_struck_things h sn (k ∷ [])) (thing_words ks) (in_struck_things h sn (k ∷ ks)) =
     sections (λ k. word_of (StrikesThing k)) (in_struck_things h sn) (k ∷ ks)
     (λ xs y ys e.
-    let g : ltb y h.variables ≡ true = all_mid (λ k. ltb k h.variables ≡ true) xs y ys (subst (All (λ k. ltb k h.variables ≡ true)) e v) in
+    let g : ltb y h.variables ≡ true = all_mid (λ k. ltb k h.variables ≡ true) xs y ys (subst (AllByRecursion (λ k. ltb k h.variables ≡ true)) e v) in
     read_ok (in_struck_things h sn xs) (StrikesThing y) (let z = ltb-true y h.variables g in omega arith) refl g (distinct_mid (λ k. word_of (StrikesThing k)) xs y ys (subst (λ t. Distinct (thing_words t)) e d)) refl)
     (k ∷ []) ks refl in (
       in_struck_things h sn (k ∷ ks),
@@ -284,7 +284,7 @@ rule_reach rs r f v =
           (makes_reach r.makes t.0 h r.struck_needs r.struck_things t.2 n v.makes)))),
     )
 
-rules_reach : (qs rs : List Rule) → length qs + length rs ≤ 16 → All FormedRule rs → Reach (outside qs) (encode rs) (outside (qs ++ rs))
+rules_reach : (qs rs : List Rule) → length qs + length rs ≤ 16 → AllByRecursion FormedRule rs → Reach (outside qs) (encode rs) (outside (qs ++ rs))
 rules_reach qs [] f v = ap outside (sym (append-nil qs))
 rules_reach qs (r ∷ rs) f v =
     reach_append (outside qs) (rule_words r) (encode rs) (outside (qs ++ r ∷ [])) (outside (qs ++ r ∷ rs))

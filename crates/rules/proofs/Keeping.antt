@@ -1,6 +1,6 @@
 -- valid rules are kept by each word
 use Rattle.std.proofs.Common.{◌≡◌, ℕ, ◌+◌, ◌<◌, ◌≤◌, true, false, ◌&&◌, eqb, ltb, leb, List, [], ◌∷◌, ◌++◌, map, length, Some, None, Ok, Option, sym, refl, ap, ◌∙◌, subst, arith}
-use Rattle.std.specs.List.{AllByRecursion as All}
+use Rattle.std.specs.List.{AllByRecursion}
 use Rattle.std.proofs.lemmas.List.{length_push}
 use Rattle.std.proofs.ByRecursion.{All-push}
 use Rattle.std.proofs.lemmas.Bool.{or_parts, or_from, leb-false, eqb-true, eqb-false, ne_eqb, false≢true, cond_both}
@@ -34,13 +34,13 @@ no_links : (limit most : ℕ) → Links limit most []
 no_links limit most = record { few = omega arith; ranges = tt; once = tt }
 
 abbrev Struck : (ℕ → ℕ) → ℕ → List ℕ → Type 0
-Struck f limit ks = All (λ k. ltb k limit ≡ true) ks × Distinct (map f ks)
+Struck f limit ks = AllByRecursion (λ k. ltb k limit ≡ true) ks × Distinct (map f ks)
 
 struck_push : (f : ℕ → ℕ) (limit : ℕ) (ks : List ℕ) (k : ℕ) → Struck f limit ks → ltb k limit ≡ true → has (f k) (map f ks) ≡ false → Struck f limit (ks ++ k ∷ [])
 struck_push f limit ks k v r o = (All-push (λ k. ltb k limit ≡ true) ks k v.0 r, distinct_push f ks k v.1 o)
 
 pub record Going (rs : List Rule) (n : ℕ) : Type 0 where
-  pub each : All FormedRule rs
+  pub each : AllByRecursion FormedRule rs
   pub room : length rs < 16
   pub variables : in_six n ≡ true
 
@@ -49,7 +49,7 @@ pub record Headed (h : Head) : Type 0 where
   pub some : 0 < length h.needs
   pub needs : Links h.variables 12 h.needs
   pub few : length h.bans ≤ 4
-  pub bans : All (FormedBan h.variables) h.bans
+  pub bans : AllByRecursion (FormedBan h.variables) h.bans
 
 abbrev strikes : ℕ → ℕ
 strikes k = word_of (StrikesNeed k)
@@ -60,8 +60,8 @@ removes k = word_of (StrikesThing k)
 abbrev pub Sofar : Partial → Type 0
 Sofar (outside rs) = FormedRules rs
 Sofar (in_needs rs n ls) = Going rs n × Links n 12 ls
-Sofar (in_shares h m ss) = Headed h × (length h.bans < 4) × (in_six m ≡ true) × (length ss < m) × All (λ s. share_in h.variables s ≡ true) ss
-Sofar (in_links h m ss ls) = Headed h × (length h.bans < 4) × (in_six m ≡ true) × (length ss ≡ m) × All (λ s. share_in h.variables s ≡ true) ss × Links m 8 ls
+Sofar (in_shares h m ss) = Headed h × (length h.bans < 4) × (in_six m ≡ true) × (length ss < m) × AllByRecursion (λ s. share_in h.variables s ≡ true) ss
+Sofar (in_links h m ss ls) = Headed h × (length h.bans < 4) × (in_six m ≡ true) × (length ss ≡ m) × AllByRecursion (λ s. share_in h.variables s ≡ true) ss × Links m 8 ls
 Sofar (in_struck_needs h sn) = Headed h × Struck strikes (length h.needs) sn
 Sofar (in_struck_things h sn st) = Headed h × Struck strikes (length h.needs) sn × Struck removes h.variables st
 Sofar (in_makes h sn st k ls) = Headed h × Struck strikes (length h.needs) sn × Struck removes h.variables st × (leb k 4 ≡ true) × Links (h.variables + k) 12 ls

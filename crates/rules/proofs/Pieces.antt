@@ -2,7 +2,7 @@
 use Rattle.std.proofs.Common.{◌≡◌, ℕ, ◌+◌, ◌/◌, ◌<◌, ◌≤◌, true, false, cond, ◌&&◌, ◌||◌, eqb, ltb, leb, List, [], ◌∷◌, ◌++◌, map, length, get_or, drop, Some, None, Option, sym, refl, ap, ◌∙◌, subst, append_assoc, append-nil, arith, length-append}
 use Rattle.std.proofs.lemmas.Bool.Decides.{nat_tests}
 use Rattle.std.proofs.lemmas.Bool.{leb-true}
-use Rattle.std.specs.List.{AllByRecursion as All}
+use Rattle.std.specs.List.{AllByRecursion}
 use Rattle.words.specs.declared.items.PatternLink.{PatternLink}
 use Rattle.words.specs.declared.items.Item.TheVariants.{Opens, Link, Bans, Makes, Ends}
 use Rattle.words.specs.Words.{word_of}
@@ -71,7 +71,7 @@ module _ (n c : ℕ) (f : n ≤ 6) (q : c ≤ 12) where
       let k = leb-true m.things 4 v.0 in
       (((omega arith, kinds_links (n + m.things) m.links (omega arith) v.2.ranges), omega arith), tt)
 
-  fine_strike : (sn st : List ℕ) (m : Option Making) → All (λ k. ltb k c ≡ true) sn → All (λ k. ltb k n ≡ true) st → FormedMaking n m → Suffixes PieceAt (strike_pieces sn st ++ make_pieces m)
+  fine_strike : (sn st : List ℕ) (m : Option Making) → AllByRecursion (λ k. ltb k c ≡ true) sn → AllByRecursion (λ k. ltb k n ≡ true) st → FormedMaking n m → Suffixes PieceAt (strike_pieces sn st ++ make_pieces m)
   fine_strike [] [] m a b v = fine_make m v
   fine_strike [] (k ∷ ks) m a b v = (
     (
@@ -91,7 +91,7 @@ module _ (n c : ℕ) (f : n ≤ 6) (q : c ≤ 12) where
     fine_make m v,
   )
 
-  fine_bans : (bs : List Ban) (sn st : List ℕ) (m : Option Making) → All (FormedBan n) bs → All (λ k. ltb k c ≡ true) sn → All (λ k. ltb k n ≡ true) st → FormedMaking n m → Suffixes PieceAt (map ban_piece bs ++ (strike_pieces sn st ++ make_pieces m))
+  fine_bans : (bs : List Ban) (sn st : List ℕ) (m : Option Making) → AllByRecursion (FormedBan n) bs → AllByRecursion (λ k. ltb k c ≡ true) sn → AllByRecursion (λ k. ltb k n ≡ true) st → FormedMaking n m → Suffixes PieceAt (map ban_piece bs ++ (strike_pieces sn st ++ make_pieces m))
   fine_bans [] sn st m d a b v = fine_strike sn st m a b v
   fine_bans (x ∷ xs) sn st m d a b v =
       let s = six x.variables d.0.variables in (

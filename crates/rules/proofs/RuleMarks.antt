@@ -3,7 +3,7 @@ use Rattle.std.proofs.Common.{◌≡◌, ℕ, ◌+◌, ◌-◌, ◌/◌, ◌%◌
 use mathlib.Core.List.{map-append}
 use Rattle.std.proofs.lemmas.List.{length-map, take_rest}
 use Rattle.std.proofs.lemmas.Bool.{ltb-true, leb-true}
-use Rattle.std.specs.List.{AllByRecursion as All}
+use Rattle.std.specs.List.{AllByRecursion}
 use Rattle.words.specs.declared.items.PatternLink.{PatternLink}
 use Rattle.words.specs.declared.items.Target.{Target}
 use Rattle.words.specs.declared.items.Target.TheVariants.{Mark}
@@ -140,7 +140,7 @@ module _ (place : ℕ) (ws : List ℕ) (r : Rule) (h : RuleHere place ws r) wher
     rule_last o e g k = k ∙ sym (rule_anchored e ∙ ap (λ z. or_else z (first_mark (last_place place r) (last_marks r))) (sym g))
 
 -- struck things and the last words
-pub things_back : (n : ℕ) (st : List ℕ) → n ≤ 256 → All (λ k. ltb k n ≡ true) st → map low_of (thing_words st) ≡ st
+pub things_back : (n : ℕ) (st : List ℕ) → n ≤ 256 → AllByRecursion (λ k. ltb k n ≡ true) st → map low_of (thing_words st) ≡ st
 things_back n [] h v = refl
 things_back n (k ∷ ks) h v =
     let z = ltb-true k n v.0 in

@@ -2,7 +2,7 @@
 use Rattle.std.proofs.Common.{◌≡◌, ℕ, ◌+◌, ◌-◌, ◌<◌, ◌≤◌, true, false, cond, ltb, List, [], ◌∷◌, ◌++◌, length, take, drop, Some, None, Option, sym, refl, ap, ◌∙◌, subst, append_assoc, append-nil, arith, length-append, length-drop}
 use Rattle.std.proofs.lemmas.List.{drop_all}
 use Rattle.std.proofs.lemmas.Bool.{lt-ltb, le-ltb, leb-true}
-use Rattle.std.specs.List.{AllByRecursion as All}
+use Rattle.std.specs.List.{AllByRecursion}
 use Rattle.words.specs.declared.items.Item.TheVariants.{Opens, Makes, Ends}
 use Rattle.words.specs.declared.faults.RuleFault.{RuleFault}
 use Rattle.words.specs.declared.faults.Cause.TheVariants.{InRule}
@@ -69,11 +69,11 @@ rule_first ws rs e = (refl, e)
 abbrev Fine : Rule → List Rule → Type 0
 Fine r rs = FormedRule r
 
-fines : (rs : List Rule) → All FormedRule rs → Suffixes Fine rs
+fines : (rs : List Rule) → AllByRecursion FormedRule rs → Suffixes Fine rs
 fines [] v = tt
 fines (r ∷ rs) v = (v.0, fines rs v.1)
 
-module _ (ws : List ℕ) (rs : List Rule) (f : All FormedRule rs) (k at : ℕ) (p : RuleStart ws rs k at) (h : at ≤ length ws) where
+module _ (ws : List ℕ) (rs : List Rule) (f : AllByRecursion FormedRule rs) (k at : ℕ) (p : RuleStart ws rs k at) (h : at ≤ length ws) where
   reached : Reached rule_words encode refl (λ _ _. refl) ws [] 0 rs k at
   reached = record { place = let q = p.0 in omega arith; rest = p.1 ∙ sym (append-nil (encode (drop k rs))) }
 

@@ -2,7 +2,7 @@
 use Rattle.std.proofs.Common.{◌≡◌, ℕ, suc, ◌+◌, ◌/◌, ◌<◌, ◌≤◌, true, false, cond, leb, List, [], ◌∷◌, ◌++◌, length, get_or, drop, refl, ap, ◌∙◌, arith}
 use Rattle.std.proofs.lemmas.List.{at_drop_more}
 use Rattle.std.proofs.lemmas.Bool.{leb-true, le-leb, lt-leb, and_parts, and_from, and_right}
-use Rattle.std.specs.List.{AllByRecursion as All}
+use Rattle.std.specs.List.{AllByRecursion}
 use Rattle.rules.specs.Runs.{within, span}
 
 module _ (low high : ℕ) (ws : List ℕ) (i : ℕ) (h : i < length ws) where
@@ -14,7 +14,7 @@ module _ (low high : ℕ) (ws : List ℕ) (i : ℕ) (h : i < length ws) where
 
 -- every word has a kind from low to high
 abbrev pub Kinds : ℕ → ℕ → List ℕ → Type 0
-Kinds low high ws = All (λ w. within low high w ≡ true) ws
+Kinds low high ws = AllByRecursion (λ w. within low high w ≡ true) ws
 
 -- the first word, if there is one, has a kind from low on
 abbrev pub Starts : ℕ → List ℕ → Type 0

@@ -1,6 +1,6 @@
 -- what later layers take from valid rules
 use Rattle.std.proofs.Common.{◌≡◌, ℕ, zero, suc, ◌<◌, ◌≤◌, Bool, true, ◌&&◌, ltb, List, [], ◌∷◌, length, get_or, Ok, Err, Result, sym, refl, ap, ◌∙◌, subst, ⊎_elim, arith}
-use Rattle.std.specs.List.{AllByRecursion as All}
+use Rattle.std.specs.List.{AllByRecursion}
 use Rattle.std.proofs.ByRecursion.{All-get_or, All-weaker}
 use Rattle.std.proofs.lemmas.Bool.{and_parts, or_cases, ltb-true, cases_eq}
 use Rattle.std.proofs.lemmas.Bool.Decides.{nat_tests}
@@ -43,7 +43,7 @@ link_range limit l e =
     let q = and_parts (ltb l.source limit) (target_in limit l.target) p.1 in
     record { label = ltb-true l.label 16 p.0; source = ltb-true l.source limit q.0; target = q.1 }
 
-pub link_ranges : (limit : ℕ) (ls : List PatternLink) → All (λ l. link_in limit l ≡ true) ls → All (LinkRange limit) ls
+pub link_ranges : (limit : ℕ) (ls : List PatternLink) → AllByRecursion (λ l. link_in limit l ≡ true) ls → AllByRecursion (LinkRange limit) ls
 link_ranges limit ls v = All-weaker (λ l. link_in limit l ≡ true) (LinkRange limit) (link_range limit) ls v
 
 -- every variable is anchored
@@ -78,7 +78,7 @@ ban_laws n b f v =
       reach = λ k h e. shared_range n (get_or b.shares k d) (All-get_or (λ s. share_in n s ≡ true) b.shares k d h f.shares) e;
     }
 
-bans_laws : (n : ℕ) (bs : List Ban) → All (FormedBan n) bs → All ValidBan bs → All (BanLaws n) bs
+bans_laws : (n : ℕ) (bs : List Ban) → AllByRecursion (FormedBan n) bs → AllByRecursion ValidBan bs → AllByRecursion (BanLaws n) bs
 bans_laws n [] f v = tt
 bans_laws n (b ∷ bs) f v = (ban_laws n b f.0 v.0, bans_laws n bs f.1 v.1)
 
@@ -94,5 +94,5 @@ rule_laws r v =
       bans = bans_laws r.variables r.bans f.bans v.bans;
     }
 
-pub lawful : (rs : List Rule) → ValidRules rs → All RuleLaws rs
+pub lawful : (rs : List Rule) → ValidRules rs → AllByRecursion RuleLaws rs
 lawful rs v = All-weaker ValidRule RuleLaws rule_laws rs v.each

@@ -3,7 +3,7 @@ use Rattle.std.proofs.Common.{◌≡◌, ℕ, suc, ◌+◌, ◌-◌, ◌/◌, �
 use Rattle.std.proofs.lemmas.List.{get_or-drop, drop-drop, drop_at, take_at}
 use Rattle.std.proofs.ByRecursion.{All-append, All-weaker}
 use Rattle.std.proofs.lemmas.Bool.{ltb-true, leb-true}
-use Rattle.std.specs.List.{AllByRecursion as All}
+use Rattle.std.specs.List.{AllByRecursion}
 use Rattle.words.specs.declared.items.PatternLink.{PatternLink}
 use Rattle.words.specs.declared.items.Target.{Target}
 use Rattle.words.specs.declared.items.Target.TheVariants.{Variable, Mark}
@@ -22,21 +22,21 @@ target_kinds : (t : Target) → (2 ≤ target_kind t / 268435456) × (target_kin
 target_kinds (Variable v) = (omega arith, omega arith)
 target_kinds (Mark m) = (omega arith, omega arith)
 
-pub kinds_links : (limit : ℕ) (ls : List PatternLink) → limit ≤ 256 → All (λ l. link_in limit l ≡ true) ls → Kinds 2 3 (link_words ls)
+pub kinds_links : (limit : ℕ) (ls : List PatternLink) → limit ≤ 256 → AllByRecursion (λ l. link_in limit l ≡ true) ls → Kinds 2 3 (link_words ls)
 kinds_links limit [] h v = tt
 kinds_links limit (l ∷ ls) h v =
     let t = target_kinds l.target in
     (in_kind 2 3 (target_kind l.target / 268435456) (word_of (Link l)) (kind_of_word (Link l) (link_fits limit l h v.0)) t.0 t.1, kinds_links limit ls h v.1)
 
-pub kinds_shares : (n : ℕ) (ss : List Share) → n ≤ 256 → All (λ s. share_in n s ≡ true) ss → Kinds 5 5 (share_words ss)
+pub kinds_shares : (n : ℕ) (ss : List Share) → n ≤ 256 → AllByRecursion (λ s. share_in n s ≡ true) ss → Kinds 5 5 (share_words ss)
 kinds_shares n [] h v = tt
 kinds_shares n (s ∷ ss) h v = (in_kind 5 5 5 (word_of (Shares s)) (kind_of_word (Shares s) (share_fits n s h v.0)) (omega arith) (omega arith), kinds_shares n ss h v.1)
 
-pub kinds_needs : (n : ℕ) (ks : List ℕ) → n ≤ 256 → All (λ k. ltb k n ≡ true) ks → Kinds 6 6 (need_words ks)
+pub kinds_needs : (n : ℕ) (ks : List ℕ) → n ≤ 256 → AllByRecursion (λ k. ltb k n ≡ true) ks → Kinds 6 6 (need_words ks)
 kinds_needs n [] h v = tt
 kinds_needs n (k ∷ ks) h v = (in_kind 6 6 6 (word_of (StrikesNeed k)) (kind_of_word (StrikesNeed k) (let z = ltb-true k n v.0 in omega arith)) (omega arith) (omega arith), kinds_needs n ks h v.1)
 
-pub kinds_things : (n : ℕ) (ks : List ℕ) → n ≤ 256 → All (λ k. ltb k n ≡ true) ks → Kinds 7 7 (thing_words ks)
+pub kinds_things : (n : ℕ) (ks : List ℕ) → n ≤ 256 → AllByRecursion (λ k. ltb k n ≡ true) ks → Kinds 7 7 (thing_words ks)
 kinds_things n [] h v = tt
 kinds_things n (k ∷ ks) h v = (in_kind 7 7 7 (word_of (StrikesThing k)) (kind_of_word (StrikesThing k) (let z = ltb-true k n v.0 in omega arith)) (omega arith) (omega arith), kinds_things n ks h v.1)
 
@@ -47,11 +47,11 @@ pub kinds_join : (low high : ℕ) (xs ys : List ℕ) → Kinds low high xs → K
 kinds_join low high xs ys a b = All-append (λ w. within low high w ≡ true) xs ys a b
 
 -- links and ban variables come back from their words
-pub links_back : (limit : ℕ) (ls : List PatternLink) → limit ≤ 256 → All (λ l. link_in limit l ≡ true) ls → map link_of (link_words ls) ≡ ls
+pub links_back : (limit : ℕ) (ls : List PatternLink) → limit ≤ 256 → AllByRecursion (λ l. link_in limit l ≡ true) ls → map link_of (link_words ls) ≡ ls
 links_back limit [] h v = refl
 links_back limit (l ∷ ls) h v = ap (λ z. z ∷ map link_of (link_words ls)) (link_of_word l (link_fits limit l h v.0)) ∙ ap (λ z. l ∷ z) (links_back limit ls h v.1)
 
-pub shares_back : (n : ℕ) (ss : List Share) → n ≤ 256 → All (λ s. share_in n s ≡ true) ss → map share_of (share_words ss) ≡ ss
+pub shares_back : (n : ℕ) (ss : List Share) → n ≤ 256 → AllByRecursion (λ s. share_in n s ≡ true) ss → map share_of (share_words ss) ≡ ss
 shares_back n [] h v = refl
 shares_back n (s ∷ ss) h v = ap (λ z. z ∷ map share_of (share_words ss)) (share_of_word s (share_fits n s h v.0)) ∙ ap (λ z. s ∷ z) (shares_back n ss h v.1)
 
@@ -64,7 +64,7 @@ kinds_ban n b h v =
           (kinds_wider 2 3 2 5 (link_words b.links) (omega arith) (omega arith) (kinds_links b.variables b.links (omega arith) v.links.ranges)),
     )
 
-pub kinds_bans : (n : ℕ) (bs : List Ban) → n ≤ 6 → All (FormedBan n) bs → Kinds 2 5 (bans_words bs)
+pub kinds_bans : (n : ℕ) (bs : List Ban) → n ≤ 6 → AllByRecursion (FormedBan n) bs → Kinds 2 5 (bans_words bs)
 kinds_bans n [] h v = tt
 kinds_bans n (b ∷ bs) h v = kinds_join 2 5 (ban_words b) (bans_words bs) (kinds_ban n b h v.0) (kinds_bans n bs h v.1)
 
@@ -74,18 +74,18 @@ module _ (n : ℕ) (f : n ≤ 6) where
   starts_makes None v = omega arith
   starts_makes (Some m) v = let k = leb-true m.things 4 v.0 in omega (arith, kind_of_word (Makes m.things) (omega arith))
 
-  pub starts_things : (st : List ℕ) (m : Option Making) → All (λ k. ltb k n ≡ true) st → FormedMaking n m → Starts 7 (thing_words st ++ (makes_words m ++ word_of Ends ∷ []))
+  pub starts_things : (st : List ℕ) (m : Option Making) → AllByRecursion (λ k. ltb k n ≡ true) st → FormedMaking n m → Starts 7 (thing_words st ++ (makes_words m ++ word_of Ends ∷ []))
   starts_things [] None a v = omega arith
   starts_things [] (Some m) a v = let k = leb-true m.things 4 v.0 in omega (arith, kind_of_word (Makes m.things) (omega arith))
   starts_things (k ∷ ks) m a v = let z = ltb-true k n a.0 in omega (arith, kind_of_word (StrikesThing k) (omega arith))
 
-  pub starts_strikes : (c : ℕ) (sn st : List ℕ) (m : Option Making) → c ≤ 12 → All (λ k. ltb k c ≡ true) sn → All (λ k. ltb k n ≡ true) st → FormedMaking n m → Starts 6 (need_words sn ++ (thing_words st ++ (makes_words m ++ word_of Ends ∷ [])))
+  pub starts_strikes : (c : ℕ) (sn st : List ℕ) (m : Option Making) → c ≤ 12 → AllByRecursion (λ k. ltb k c ≡ true) sn → AllByRecursion (λ k. ltb k n ≡ true) st → FormedMaking n m → Starts 6 (need_words sn ++ (thing_words st ++ (makes_words m ++ word_of Ends ∷ [])))
   starts_strikes c [] [] None q b a v = omega arith
   starts_strikes c [] [] (Some m) q b a v = let k = leb-true m.things 4 v.0 in omega (arith, kind_of_word (Makes m.things) (omega arith))
   starts_strikes c [] (k ∷ ks) m q b a v = let z = ltb-true k n a.0 in omega (arith, kind_of_word (StrikesThing k) (omega arith))
   starts_strikes c (k ∷ ks) st m q b a v = let z = ltb-true k c b.0 in omega (arith, kind_of_word (StrikesNeed k) (omega arith))
 
-  pub starts_bans : (c : ℕ) (bs : List Ban) (sn st : List ℕ) (m : Option Making) → c ≤ 12 → All (FormedBan n) bs → All (λ k. ltb k c ≡ true) sn → All (λ k. ltb k n ≡ true) st → FormedMaking n m → Starts 4 (bans_words bs ++ (need_words sn ++ (thing_words st ++ (makes_words m ++ word_of Ends ∷ []))))
+  pub starts_bans : (c : ℕ) (bs : List Ban) (sn st : List ℕ) (m : Option Making) → c ≤ 12 → AllByRecursion (FormedBan n) bs → AllByRecursion (λ k. ltb k c ≡ true) sn → AllByRecursion (λ k. ltb k n ≡ true) st → FormedMaking n m → Starts 4 (bans_words bs ++ (need_words sn ++ (thing_words st ++ (makes_words m ++ word_of Ends ∷ []))))
   starts_bans c (b ∷ bs) sn st m q d e a v = let z = six b.variables d.0.variables in omega (arith, kind_of_word (Bans b.variables) (omega arith))
   starts_bans c [] (k ∷ ks) st m q d e a v = let z = ltb-true k c e.0 in omega (arith, kind_of_word (StrikesNeed k) (omega arith))
   starts_bans c [] [] (k ∷ ks) m q d e a v = let z = ltb-true k n a.0 in omega (arith, kind_of_word (StrikesThing k) (omega arith))

@@ -1,6 +1,6 @@
 -- What later layers may rely on of valid rules.
 use Rattle.std.specs.Prelude.{◌≡◌, ℕ, ◌<◌, ◌≤◌, true, List, length, slice_index_or}
-use Rattle.std.specs.List.{AllByRecursion as All}
+use Rattle.std.specs.List.{AllByRecursion}
 use Rattle.words.specs.declared.items.PatternLink.{PatternLink}
 use Rattle.words.specs.declared.items.Share.{Share}
 use Rattle.words.specs.Steps.{target_in}
@@ -27,7 +27,7 @@ pub record BanLaws (n : ℕ) (b : Ban) : Type 0 where
   pub variables : (1 ≤ b.variables) × (b.variables ≤ 6)
   pub shares : length b.shares ≡ b.variables
   pub links : (1 ≤ length b.links) × (length b.links ≤ 8)
-  pub ranges : All (LinkRange b.variables) b.links
+  pub ranges : AllByRecursion (LinkRange b.variables) b.links
   pub anchored : EachAnchored b.variables b.links
   pub shared : (k : ℕ) × (k < length b.shares) × (is_shared (share_at b.shares k) ≡ true)
   pub reach : (k : ℕ) → k < length b.shares → is_shared (share_at b.shares k) ≡ true → (share_at b.shares k).variable < n
@@ -36,11 +36,11 @@ pub record BanLaws (n : ℕ) (b : Ban) : Type 0 where
 pub record RuleLaws (r : Rule) : Type 0 where
   pub variables : (1 ≤ r.variables) × (r.variables ≤ 6)
   pub needs : (1 ≤ length r.needs) × (length r.needs ≤ 12)
-  pub ranges : All (LinkRange r.variables) r.needs
+  pub ranges : AllByRecursion (LinkRange r.variables) r.needs
   pub anchored : EachAnchored r.variables r.needs
   pub few : length r.bans ≤ 4
-  pub bans : All (BanLaws r.variables) r.bans
+  pub bans : AllByRecursion (BanLaws r.variables) r.bans
 
 -- this holds of every rule of a valid set
 abbrev pub Lawful : Type 0
-Lawful = (rs : List Rule) → ValidRules rs → All RuleLaws rs
+Lawful = (rs : List Rule) → ValidRules rs → AllByRecursion RuleLaws rs

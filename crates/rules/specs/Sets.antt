@@ -1,6 +1,6 @@
 -- A rule set as it is lent, and what reading answers.
 use Rattle.std.specs.Prelude.{◌≡◌, ℕ, ◌≤◌, List, length, take, drop, Some, None, Ok, Err, Option, Result}
-use Rattle.std.specs.List.{AllByRecursion as All}
+use Rattle.std.specs.List.{AllByRecursion}
 use Rattle.rules.specs.declared.faults.SetFault.{SetFault}
 use Rattle.rules.specs.declared.sets.RuleSet.{RuleSet}
 use Rattle.rules.specs.Rules.{Rule, encode}
@@ -9,7 +9,7 @@ use Rattle.rules.specs.Reading.{reading_of, Says}
 
 -- the set's words say these rules, and it counts them
 pub record SetHere (s : RuleSet) (rs : List Rule) : Type 0 where
-  pub formed : All FormedRule rs
+  pub formed : AllByRecursion FormedRule rs
   pub written : s.words.now ≡ encode rs
   pub count : s.rules ≡ length rs
   pub inside : length s.words.now ≤ 1024

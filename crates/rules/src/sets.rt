@@ -1,6 +1,6 @@
 // A rule set, lent: the accepted words, and each rule as a run of them.
 ghost use Rattle.std.specs.Prelude.{◌≡◌, ◌≤◌, List, length, take, drop};
-ghost use Rattle.std.specs.List.{AllByRecursion as All};
+ghost use Rattle.std.specs.List.{AllByRecursion};
 ghost use Rattle.rules.specs.Rules.{Rule, encode};
 ghost use Rattle.rules.specs.Formed.{FormedRule};
 ghost use Rattle.rules.specs.Runs.{rule_end};
@@ -47,7 +47,7 @@ fn rule_end(words: &[u32], at: usize) -> usize
 // Where rule `i` begins.
 fn rule_start(words: &[u32], i: usize) -> usize
     ensures within { result ≤ length words.now }
-    ensures start { (rs : List Rule) → All FormedRule rs → words.now ≡ encode rs → RuleStart words.now rs i result }
+    ensures start { (rs : List Rule) → AllByRecursion FormedRule rs → words.now ≡ encode rs → RuleStart words.now rs i result }
 {
     let mut at = 0;
     for _ in 0..i {

@@ -1,4 +1,4 @@
-use Rattle.links.specs.Order.{same_members}
+use Rattle.links.proofs.Order.{same_members}
 use Rattle.links.proofs.link.sets_are_determined.Goals as goal
 
 pub returns : goal.returns

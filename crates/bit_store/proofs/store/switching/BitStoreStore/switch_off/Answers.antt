@@ -11,7 +11,8 @@ returns-then-not-is_set c =
 pub overflow_sub-self : goal.overflow_sub-self
 overflow_sub-self c =
     let placed = c.in-Some.ensures in
-    off_some c.args.self.now _ _ placed.0 placed.1 c.if-not-is_set.ensures
+    let some = off_some c.args.self.now _ _ placed.0 placed.1 c.if-not-is_set.ensures in
+    omega arith
 
 pub invariant_of-self : goal.invariant_of-self
 invariant_of-self c =

@@ -1,4 +1,5 @@
 pub mod Inside
 pub mod Order
+pub mod Ranges
 pub mod Switching
 pub mod Touching

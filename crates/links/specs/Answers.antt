@@ -3,21 +3,29 @@ use Rattle.std.specs.Prelude.{◌≡◌, ℕ, ◌+◌, ◌<◌, ◌≤◌, Bool,
 use Rattle.links.specs.declared.link.Link.{Link}
 use Rattle.links.specs.declared.switch_refusal.SwitchRefusal.{SwitchRefusal}
 use Rattle.links.specs.declared.switch_refusal.SwitchRefusal.TheVariants.{NoSuchLink, AlreadyOn, NotOn, Full}
-use Rattle.links.specs.Sets.{inside, member, touched}
+use Rattle.links.specs.Sets.{LinkSet, inserted, inside, member, removed, touched, with_links}
 
 -- why a link is not switched on, the smallest number first; none where it is
-abbrev pub on_refusal : ℕ → ℕ → List Link → Link → Option SwitchRefusal
-on_refusal things limit ls l =
-    cond (inside things l) (cond (member l ls) (Some AlreadyOn) (cond (nat_le limit (length ls)) (Some Full) None)) (Some NoSuchLink)
+abbrev pub on_refusal : LinkSet → Link → Option SwitchRefusal
+on_refusal g l =
+    cond (inside g.things l) (cond (member l g.links) (Some AlreadyOn) (cond (nat_le g.limit (length g.links)) (Some Full) None)) (Some NoSuchLink)
 
 -- why a link is not switched off
-abbrev pub off_refusal : ℕ → List Link → Link → Option SwitchRefusal
-off_refusal things ls l = cond (inside things l) (cond (member l ls) None (Some NotOn)) (Some NoSuchLink)
+abbrev pub off_refusal : LinkSet → Link → Option SwitchRefusal
+off_refusal g l = cond (inside g.things l) (cond (member l g.links) None (Some NotOn)) (Some NoSuchLink)
 
--- A switching that is refused for `why`, if for anything: taken it leaves the new set, refused the old one.
-abbrev pub Switched : Option SwitchRefusal → List Link → List Link → Result (Unit {0}) SwitchRefusal → List Link → Type 0
-Switched why old new (Ok _) after = (why ≡ None) × (after ≡ new)
-Switched why old new (Err e) after = (why ≡ Some e) × (after ≡ old)
+-- A switching that is refused for `why`, if for anything: taken it leaves the new links, refused the old ones, and the sizes always.
+abbrev pub Switched : Option SwitchRefusal → List Link → LinkSet → Result (Unit {0}) SwitchRefusal → LinkSet → Type 0
+Switched why new old (Ok _) after = (why ≡ None) × (after ≡ with_links new old)
+Switched why new old (Err e) after = (why ≡ Some e) × (after ≡ old)
+
+-- a switching on adds exactly the link, or is refused
+abbrev pub SwitchedOn : Link → LinkSet → Result (Unit {0}) SwitchRefusal → LinkSet → Type 0
+SwitchedOn l old = Switched (on_refusal old l) (inserted l old.links) old
+
+-- a switching off removes exactly the link, or is refused
+abbrev pub SwitchedOff : Link → LinkSet → Result (Unit {0}) SwitchRefusal → LinkSet → Type 0
+SwitchedOff l old = Switched (off_refusal old l) (removed l old.links) old
 
 -- the smallest number from `from` on that passes the test; none exactly when none passes
 abbrev pub Least : (ℕ → Bool) → ℕ → Option ℕ → Type 0
@@ -25,6 +33,6 @@ Least p from None = (n : ℕ) → from ≤ n → p n ≡ false
 Least p from (Some n) = (from ≤ n) × (p n ≡ true) × ((m : ℕ) → from ≤ m → m < n → p m ≡ false)
 
 -- a thing that no link touches; none exactly when every thing is touched
-abbrev pub Spare : ℕ → List Link → Option ℕ → Type 0
-Spare things ls None = (n : ℕ) → 64 ≤ n → n < 64 + things → touched n ls ≡ true
-Spare things ls (Some n) = (64 ≤ n) × (n < 64 + things) × (touched n ls ≡ false)
+abbrev pub Spare : LinkSet → Option ℕ → Type 0
+Spare g None = (n : ℕ) → 64 ≤ n → n < 64 + g.things → touched n g.links ≡ true
+Spare g (Some n) = (64 ≤ n) × (n < 64 + g.things) × (touched n g.links ≡ false)

@@ -50,8 +50,18 @@ touched n (l ∷ ls) = touches n l || touched n ls
 abbrev pub InRange : ℕ → ℕ → Type 0
 InRange things limit = (1 ≤ things) × (things ≤ 448) × (1 ≤ limit) × (limit ≤ 4096)
 
+-- a set of links with its two fixed sizes: its things, and the most links that it holds
+pub record LinkSet : Type 0 where
+  pub things : ℕ
+  pub limit : ℕ
+  pub links : List Link
+
+-- the set of these links, with the sizes of another
+abbrev pub with_links : List Link → LinkSet → LinkSet
+with_links ls g = record { things = g.things; limit = g.limit; links = ls }
+
 -- what holds of every value of a type that means a set of links
-pub record Lawful {X : Type 0} (links : X → List Link) (things limit : X → ℕ) : Type 0 where
-  pub in_range : (x : X) → InRange (things x) (limit x)
-  pub all_in : (x : X) → all_inside (things x) (links x) ≡ true
-  pub rises : (x : X) → rising (links x) ≡ true
+pub record Lawful {X : Type 0} (set : X → LinkSet) : Type 0 where
+  pub in_range : (x : X) → InRange (set x).things (set x).limit
+  pub all_in : (x : X) → all_inside (set x).things (set x).links ≡ true
+  pub rises : (x : X) → rising (set x).links ≡ true

@@ -6,7 +6,7 @@ ghost use Rattle.links.specs.Order.{link_order};
 use ordered::Keyed;
 
 // A link from a thing, under a label, to a thing or a mark. Nodes below 64 are marks, the others things.
-#[derive(Clone, Copy, PartialEq, Eq, Debug)]
+#[derive(Clone, Copy, PartialEq, Eq, PartialOrd, Ord, Debug)]
 pub struct Link {
     pub source: u32,
     pub label: u32,
@@ -29,16 +29,11 @@ impl Keyed for Link {
     ghost order = { link_order };
 
     fn comes_before(&self, other: &Link) -> bool {
-        self.source < other.source
-            || self.source == other.source
-                && (self.label < other.label
-                    || self.label == other.label && self.target < other.target)
+        self < other
     }
 }
 
 // Two rising lists of links with the same members are one list: a set of links has one form.
-pub fn sets_are_determined() -> u8
+pub fn sets_are_determined()
     ensures { (xs ys : List Link) → rising xs ≡ true → rising ys ≡ true → ((l : Link) → member l xs ≡ member l ys) → xs ≡ ys }
-{
-    0
-}
+{}

@@ -1,7 +1,9 @@
-ghost use Rattle.std.specs.Prelude.{◌≡◌};
+ghost use Rattle.std.specs.Prelude.{◌≡◌, Some};
 ghost use Rattle.links.specs.Numbers.{insert_as_switch, switch_number};
+ghost use Rattle.links.specs.Texts.{switch_text};
 
 use ordered::InsertRefusal;
+use std::fmt;
 
 // Why a link is not switched.
 #[derive(Clone, Copy, PartialEq, Eq, Debug)]
@@ -17,6 +19,19 @@ impl SwitchRefusal {
         ensures { result ≡ switch_number self }
     {
         self as u8
+    }
+}
+
+impl fmt::Display for SwitchRefusal {
+    ghost output = { λ e. Some (switch_text e) };
+
+    fn fmt<W: fmt::Write>(&self, f: &mut fmt::Formatter<W>) -> fmt::Result {
+        f.write_str(match self {
+            SwitchRefusal::NoSuchLink => "no such link",
+            SwitchRefusal::AlreadyOn => "already on",
+            SwitchRefusal::NotOn => "not on",
+            SwitchRefusal::Full => "full",
+        })
     }
 }
 

@@ -1,7 +1,6 @@
-ghost use Rattle.std.specs.Prelude.{◌≡◌, ℕ, List, length};
-ghost use Rattle.links.specs.declared.link.Link.{Link};
-ghost use Rattle.links.specs.Answers.{Least, Spare, Switched, off_refusal, on_refusal};
-ghost use Rattle.links.specs.Sets.{Lawful, inserted, link_of, member, removed};
+ghost use Rattle.std.specs.Prelude.{◌≡◌, length};
+ghost use Rattle.links.specs.Answers.{Least, Spare, SwitchedOff, SwitchedOn};
+ghost use Rattle.links.specs.Sets.{Lawful, LinkSet, link_of, member, touched};
 
 use crate::link::Link;
 use crate::sizes::Sizes;
@@ -10,49 +9,54 @@ use crate::switch_refusal::SwitchRefusal;
 // A set of links that can be asked. No question changes it, and numbers outside the sizes are
 // answered no or none.
 pub trait Links {
-    // The set, as the rising list of its links.
-    ghost links: { Self → List Link };
+    // The set that a value means, with its sizes.
+    ghost set: { Self → LinkSet };
 
-    ghost things: { Self → ℕ };
-
-    ghost limit: { Self → ℕ };
-
-    // The sizes are in range, every link lies inside them, and the list rises.
-    ghost lawful: { Lawful links things limit };
+    // The sizes are in range, every link lies inside them, and the links rise.
+    ghost lawful: { Lawful set };
 
     fn sizes(&self) -> Sizes
-        ensures things { result.things ≡ things self.now }
-        ensures limit { result.limit ≡ limit self.now };
+        ensures things { result.things ≡ (set self.now).things }
+        ensures limit { result.limit ≡ (set self.now).limit };
 
     // The number of links.
     fn link_count(&self) -> usize
-        ensures { result ≡ length (links self.now) };
+        ensures { result ≡ length (set self.now).links };
 
     fn is_on(&self, link: Link) -> bool
-        ensures { result ≡ member link (links self.now) };
+        ensures { result ≡ member link (set self.now).links };
 
     // The smallest target, not below `from`, that the source reaches under the label.
     fn next_target(&self, source: u32, label: u32, from: u32) -> Option<u32>
-        ensures { Least (λ t. member (link_of source label t) (links self.now)) from result };
+        ensures { Least (λ t. member (link_of source label t) (set self.now).links) from result };
 
     // The smallest source, not below `from`, that reaches the target under the label.
     fn next_source(&self, target: u32, label: u32, from: u32) -> Option<u32>
-        ensures { Least (λ s. member (link_of s label target) (links self.now)) from result };
+        ensures { Least (λ s. member (link_of s label target) (set self.now).links) from result };
+
+    // Whether some link begins or ends at the thing.
+    fn is_touched(&self, thing: u32) -> bool
+        ensures { result ≡ touched thing (set self.now).links }
+    {
+        (0..16).any(|label| {
+            self.next_target(thing, label, 0).is_some()
+                || self.next_source(thing, label, 0).is_some()
+        })
+    }
 
     // Some thing that no link touches.
     fn spare_thing(&self) -> Option<u32>
-        ensures { Spare (things self.now) (links self.now) result };
+        ensures { Spare (set self.now) result }
+    {
+        (64..64 + self.sizes().things()).find(|thing| !self.is_touched(*thing))
+    }
 }
 
 // A set of links that can be changed, one link at a time; its sizes stay.
 pub trait Store: Links {
     fn switch_on(&mut self, link: Link) -> Result<(), SwitchRefusal>
-        ensures links { Switched (on_refusal (Self.Links.things self.old) (Self.Links.limit self.old) (Self.Links.links self.old) link) (Self.Links.links self.old) (inserted link (Self.Links.links self.old)) result (Self.Links.links self.new) }
-        ensures things { Self.Links.things self.new ≡ Self.Links.things self.old }
-        ensures limit { Self.Links.limit self.new ≡ Self.Links.limit self.old };
+        ensures { SwitchedOn link (Self.Links.set self.old) result (Self.Links.set self.new) };
 
     fn switch_off(&mut self, link: Link) -> Result<(), SwitchRefusal>
-        ensures links { Switched (off_refusal (Self.Links.things self.old) (Self.Links.links self.old) link) (Self.Links.links self.old) (removed link (Self.Links.links self.old)) result (Self.Links.links self.new) }
-        ensures things { Self.Links.things self.new ≡ Self.Links.things self.old }
-        ensures limit { Self.Links.limit self.new ≡ Self.Links.limit self.old };
+        ensures { SwitchedOff link (Self.Links.set self.old) result (Self.Links.set self.new) };
 }

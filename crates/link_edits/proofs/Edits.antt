@@ -1,20 +1,22 @@
 -- Members, order and length of an edited set.
 use Rattle.std.proofs.Common.{◌≡◌, ℕ, ◌+◌, ◌-◌, ◌<◌, ◌≤◌, Bool, true, false, cond, not, ◌&&◌, ◌||◌, List, [], ◌∷◌, ◌++◌, length, get_or, take, sym, refl, ap, ◌∙◌, ⊎_elim, arith}
-use Rattle.std.proofs.lemmas.Bool.{cond_both, and_parts, or_cases, both_ways, not-true}
+use Rattle.std.proofs.lemmas.Bool.{cond_both, and_parts, or_cases, both_ways}
 use Rattle.std.proofs.lemmas.List.{take_more}
 use Rattle.std.proofs.lemmas.Bool.Decides.{nat_tests}
+use mir.Val.{bool_byte}
 use Rattle.ordered.specs.Order.{same}
-use Rattle.ordered.proofs.Laws.{ascending_without, ascending_placed, without_none}
+use Rattle.ordered.proofs.Laws.{without_none}
 use Rattle.ordered.proofs.Members.{has_placed, has_without, length_placed, length_without}
 use Rattle.links.specs.declared.link.Link.{Link}
-use Rattle.links.specs.Sets.{link_before, rising, member, inserted, removed, inside, all_inside, link_of}
+use Rattle.links.specs.Sets.{LinkSet, link_before, rising, member, inserted, removed, inside, all_inside, link_of}
 use Rattle.links.specs.Order.{link_order}
 use Rattle.links.proofs.Order.{same_is}
-use Rattle.links.proofs.Inside.{all_inserted, all_removed}
-use Rattle.link_edits.specs.declared.direction.Direction.{Direction}
-use Rattle.link_edits.specs.declared.direction.Direction.TheVariants.{Outgoing, Incoming}
-use Rattle.link_edits.specs.Directions.{link_with}
-use Rattle.link_edits.specs.Edits.{with_link, with_all, without_all, edited}
+use Rattle.link_edits.specs.declared.adjacency.Direction.{Direction}
+use Rattle.link_edits.specs.declared.edit.Edit.{Edit}
+use Rattle.link_edits.specs.declared.adjacency.Direction.TheVariants.{Outgoing, Incoming}
+use Rattle.link_edits.specs.Adjacencies.{link_with}
+use Rattle.link_edits.specs.Kept.{rising_off}
+use Rattle.link_edits.specs.Edits.{after, with_link, with_all, without_all, edited}
 
 -- one link on
 module _ (n : ℕ) (l : Link) (ls : List Link) where
@@ -38,18 +40,6 @@ module _ (n : ℕ) (l : Link) (ls : List Link) where
       absorbed true true h e = refl
       absorbed true false h e = absurd (both_ways true h refl)
       absorbed false m h e = absurd (both_ways false refl e)
-
-  pub rising_with : rising ls ≡ true → rising (with_link n l ls) ≡ true
-  rising_with r =
-      cond_both (inside n l && not (member l ls)) (inserted l ls) ls (λ v. rising v ≡ true)
-      (λ h. ascending_placed link_before link_order l ls r (not-true (member l ls) (and_parts (inside n l) (not (member l ls)) h).1))
-      (λ _. r)
-
-  pub inside_with : all_inside n ls ≡ true → all_inside n (with_link n l ls) ≡ true
-  inside_with i =
-      cond_both (inside n l && not (member l ls)) (inserted l ls) ls (λ v. all_inside n v ≡ true)
-      (λ h. all_inserted n l ls (and_parts (inside n l) (not (member l ls)) h).0 i)
-      (λ _. i)
 
   pub length_with : length (with_link n l ls) ≡ cond (inside n l && not (member l ls)) (length ls + 1) (length ls)
   length_with =
@@ -84,21 +74,9 @@ module _ (n : ℕ) where
       joined true false false b = refl
       joined false m s b = refl
 
-  pub rising_with_all : (on ls : List Link) → rising ls ≡ true → rising (with_all n on ls) ≡ true
-  rising_with_all [] ls r = r
-  rising_with_all (m ∷ ms) ls r = rising_with_all ms (with_link n m ls) (rising_with n m ls r)
-
-  pub inside_with_all : (on ls : List Link) → all_inside n ls ≡ true → all_inside n (with_all n on ls) ≡ true
-  inside_with_all [] ls i = i
-  inside_with_all (m ∷ ms) ls i = inside_with_all ms (with_link n m ls) (inside_with n m ls i)
-
   pub with_all_push : (on : List Link) (l : Link) (ls : List Link) → with_all n (on ++ l ∷ []) ls ≡ with_link n l (with_all n on ls)
   with_all_push [] l ls = refl
   with_all_push (m ∷ ms) l ls = with_all_push ms l (with_link n m ls)
-
-  pub inside_off : (off ls : List Link) → all_inside n ls ≡ true → all_inside n (without_all off ls) ≡ true
-  inside_off [] ls i = i
-  inside_off (m ∷ ms) ls i = inside_off ms (removed m ls) (all_removed n m ls i)
 
 -- many links off
 pub member_off : (x : Link) (off ls : List Link) → member x (without_all off ls) ≡ (not (member x off) && member x ls)
@@ -112,10 +90,6 @@ member_off x (m ∷ ms) ls =
     joined false true b = refl
     joined false false b = refl
 
-pub rising_off : (off ls : List Link) → rising ls ≡ true → rising (without_all off ls) ≡ true
-rising_off [] ls r = r
-rising_off (m ∷ ms) ls r = rising_off ms (removed m ls) (ascending_without link_before m ls r)
-
 pub off_push : (off : List Link) (l : Link) (ls : List Link) → without_all (off ++ l ∷ []) ls ≡ removed l (without_all off ls)
 off_push [] l ls = refl
 off_push (m ∷ ms) l ls = off_push ms l (removed m ls)
@@ -124,9 +98,6 @@ off_push (m ∷ ms) l ls = off_push ms l (removed m ls)
 module _ (n : ℕ) (off on ls : List Link) where
   pub member_edited : (x : Link) → member x (edited n off on ls) ≡ ((inside n x && member x on) || (not (member x off) && member x ls))
   member_edited x = member_with_all n x on (without_all off ls) ∙ ap (λ v. (inside n x && member x on) || v) (member_off x off ls)
-
-  pub rising_edited : rising ls ≡ true → rising (edited n off on ls) ≡ true
-  rising_edited r = rising_with_all n on (without_all off ls) (rising_off off ls r)
 
   -- what the edit puts on is on, what else it takes off is off, and the others stay
   pub edited_put : (x : Link) → (inside n x && member x on) ≡ true → true ≡ member x (edited n off on ls)
@@ -137,9 +108,6 @@ module _ (n : ℕ) (off on ls : List Link) where
 
   pub edited_stays : (x : Link) → (inside n x && member x on) ≡ false → member x off ≡ false → member x ls ≡ member x (edited n off on ls)
   edited_stays x h m = sym (member_edited x ∙ ap (λ v. v || (not (member x off) && member x ls)) h ∙ ap (λ v. not v && member x ls) m)
-
-  pub inside_edited : all_inside n ls ≡ true → all_inside n (edited n off on ls) ≡ true
-  inside_edited i = inside_with_all n on (without_all off ls) (inside_off n off ls i)
 
 -- a member lies inside
 pub member_inside : (n : ℕ) (x : Link) (ls : List Link) → all_inside n ls ≡ true → member x ls ≡ true → inside n x ≡ true
@@ -152,6 +120,14 @@ pub other_small : (n : ℕ) (ls : List Link) (way : Direction) (node label t : �
 other_small n ls Outgoing node label t i m = let h = member_inside n (link_of node label t) ls i m in grind (arith, nat_tests)
 other_small n ls Incoming node label t i m = let h = member_inside n (link_of t label node) ls i m in grind (arith, nat_tests)
 
+-- the set after an edit, by what the edit's lists are
+pub edit_is : (g h : LinkSet) (e : Edit) (off on : List Link) → h ≡ g → e.off.now ≡ off → e.on.now ≡ on → (after e h).links ≡ edited g.things off on g.links
+edit_is g h e off on p q r = ap (λ v. (after e v).links) p ∙ ap (λ v. edited g.things v e.on.now g.links) q ∙ ap (λ v. edited g.things off v g.links) r
+
+-- whether a link is new after an edit, by what the edit's lists are
+pub gains_is : (g h : LinkSet) (e : Edit) (off on : List Link) (l : Link) (t : Bool) → h ≡ g → e.off.now ≡ off → e.on.now ≡ on → t ≡ (inside h.things l && not (member l (after e h).links)) → t ≡ (inside g.things l && not (member l (edited g.things off on g.links)))
+gains_is g h e off on l t p q r m = m ∙ ap (λ v. inside v.things l && not (member l (after e v).links)) p ∙ ap (λ v. inside g.things l && not (member l v)) (edit_is g g e off on refl q r)
+
 -- one more of a list, off or on
 pub off_more : (off : List Link) (i : ℕ) (d : Link) (ls : List Link) → i < length off → without_all (take (i + 1) off) ls ≡ removed (get_or off i d) (without_all (take i off) ls)
 off_more off i d ls l = ap (λ v. without_all v ls) (take_more off i d l) ∙ off_push (take i off) (get_or off i d) ls
@@ -160,22 +136,22 @@ pub on_more : (n : ℕ) (on : List Link) (i : ℕ) (d : Link) (ls : List Link) �
 on_more n on i d ls l = ap (λ v. with_all n v ls) (take_more on i d l) ∙ with_all_push n (take i on) (get_or on i d) ls
 
 -- the count, as a loop goes through the links to be off, and through those to be on
--- (a slice from 0 on to i has i - 0 elements)
-front : (i : ℕ) → i - 0 ≡ i
-front i = omega arith
+byte : (t : Bool) → bool_byte t ≡ cond t 1 0
+byte true = refl
+byte false = refl
 
-pub count_off : (off : List Link) (i : ℕ) (d : Link) (ls : List Link) (count r : ℕ) (t : Bool) → rising ls ≡ true → i < length off → count ≡ length (without_all (take i off) ls) → t ≡ member (get_or off i d) (without_all (take (i - 0) off) ls) → r ≡ cond t 1 0 → (r ≤ count) × (count - r ≡ length (without_all (take (i + 1) off) ls))
+pub count_off : (off : List Link) (i : ℕ) (d : Link) (ls : List Link) (count r : ℕ) (t : Bool) → rising ls ≡ true → i < length off → count ≡ length (without_all (take i off) ls) → t ≡ member (get_or off i d) (without_all (take i off) ls) → r ≡ bool_byte t → (r ≤ count) × (count - r ≡ length (without_all (take (i + 1) off) ls))
 count_off off i d ls count r t h l c m e =
     let k = length_off 0 (get_or off i d) (without_all (take i off) ls) (rising_off (take i off) ls h) in
-    let q : r ≡ cond (member (get_or off i d) (without_all (take i off) ls)) 1 0 = e ∙ ap (λ v. cond v 1 0) (m ∙ ap (λ (v : ℕ). member (get_or off i d) (without_all (take v off) ls)) (front i)) in
+    let q : r ≡ cond (member (get_or off i d) (without_all (take i off) ls)) 1 0 = e ∙ byte t ∙ ap (λ v. cond v 1 0) m in
     let n = ap length (off_more off i d ls l) in
     (omega arith, omega arith)
 
-pub count_on : (n : ℕ) (on : List Link) (i : ℕ) (d : Link) (ls : List Link) (count r : ℕ) (t : Bool) → i < length on → count ≡ length (with_all n (take i on) ls) → t ≡ (inside n (get_or on i d) && not (member (get_or on i d) (with_all n (take (i - 0) on) ls))) → r ≡ cond t 1 0 → count + r ≡ length (with_all n (take (i + 1) on) ls)
+pub count_on : (n : ℕ) (on : List Link) (i : ℕ) (d : Link) (ls : List Link) (count r : ℕ) (t : Bool) → i < length on → count ≡ length (with_all n (take i on) ls) → t ≡ (inside n (get_or on i d) && not (member (get_or on i d) (with_all n (take i on) ls))) → r ≡ bool_byte t → count + r ≡ length (with_all n (take (i + 1) on) ls)
 count_on n on i d ls count r t l c m e =
     let k = length_with n (get_or on i d) (with_all n (take i on) ls) in
     let q = ap length (on_more n on i d ls l) in
-    ap (λ v. v + r) c ∙ ap (λ v. length (with_all n (take i on) ls) + v) e ∙ chosen t (length (with_all n (take i on) ls)) ∙ ap (λ v. cond v (length (with_all n (take i on) ls) + 1) (length (with_all n (take i on) ls))) (m ∙ ap (λ (v : ℕ). inside n (get_or on i d) && not (member (get_or on i d) (with_all n (take v on) ls))) (front i)) ∙ sym (q ∙ k)
+    ap (λ v. v + r) c ∙ ap (λ v. length (with_all n (take i on) ls) + v) (e ∙ byte t) ∙ chosen t (length (with_all n (take i on) ls)) ∙ ap (λ v. cond v (length (with_all n (take i on) ls) + 1) (length (with_all n (take i on) ls))) m ∙ sym (q ∙ k)
   where
     chosen : (t : Bool) (n : ℕ) → n + cond t 1 0 ≡ cond t (n + 1) n
     chosen true n = refl

@@ -2,7 +2,7 @@
 use Rattle.std.proofs.Common.{◌≡◌, ℕ, ◌+◌, ◌<◌, ◌≤◌, Bool, true, false, ◌&&◌, ◌||◌, ltb, Some, None, Option, sym, refl, ap, ◌∙◌, ⊎_elim, arith}
 use Rattle.std.proofs.lemmas.Bool.{cond_both, or_from, or_left, or_right, cases_lt, ltb-true, ltb-false, and_from, and_left, cases_Bool}
 use Rattle.links.specs.Answers.{Least}
-use Rattle.link_edits.specs.Directions.{smaller}
+use Rattle.link_edits.specs.Adjacencies.{smaller}
 
 pub least_same : (p q : ℕ → Bool) (f : ℕ) (o : Option ℕ) → ((t : ℕ) → p t ≡ q t) → Least p f o → Least q f o
 least_same p q f None h n = λ t l. sym (h t) ∙ n t l

@@ -1,7 +1,8 @@
 -- One more link of a list that a loop goes through.
-use Rattle.std.proofs.Common.{◌≡◌, ℕ, ◌+◌, ◌<◌, ◌≤◌, Bool, true, false, ◌&&◌, ◌||◌, List, [], ◌∷◌, ◌++◌, length, get_or, take, drop, Some, None, Option, sym, refl, ap, ◌∙◌, subst, ⊎_elim, arith}
-use Rattle.std.proofs.lemmas.Bool.{or_left, and_from, and_parts, both_ways, cases_Bool}
-use Rattle.std.proofs.lemmas.List.{drop_more, take_more}
+use Rattle.std.proofs.Common.{◌≡◌, ℕ, ◌+◌, ◌<◌, ◌≤◌, Bool, true, false, ◌&&◌, ◌||◌, List, [], ◌∷◌, ◌++◌, length, get_or, take, Some, None, Option, sym, refl, ap, ◌∙◌, subst, ⊎_elim, arith}
+use Rattle.std.specs.Bool.{then_some}
+use Rattle.std.proofs.lemmas.Bool.{and_from, and_parts, both_ways, cases_Bool}
+use Rattle.std.proofs.lemmas.List.{take_more}
 use Rattle.ordered.proofs.Laws.{same_refl}
 use Rattle.links.specs.Order.{link_order}
 use Rattle.links.proofs.Order.{same_is}
@@ -9,9 +10,9 @@ use Rattle.ordered.specs.Order.{same}
 use Rattle.links.specs.declared.link.Link.{Link}
 use Rattle.links.specs.Answers.{Least}
 use Rattle.links.specs.Sets.{link_before, member, inside}
-use Rattle.link_edits.specs.declared.direction.Direction.{Direction}
-use Rattle.link_edits.specs.declared.direction.Direction.TheVariants.{Outgoing, Incoming}
-use Rattle.link_edits.specs.Directions.{link_with, other_end, smaller}
+use Rattle.link_edits.specs.declared.adjacency.Direction.{Direction}
+use Rattle.link_edits.specs.declared.adjacency.Direction.TheVariants.{Outgoing, Incoming}
+use Rattle.link_edits.specs.Adjacencies.{link_with, other_end, smaller}
 use Rattle.link_edits.proofs.Leasts.{least_same, least_or, least_only}
 
 or_none : (a : Bool) → (a || false) ≡ a
@@ -28,12 +29,6 @@ member_push x y (m ∷ ms) = rw (member_push x y ms) (or_assoc (same link_before
 
 pub member_more : (x : Link) (xs : List Link) (i : ℕ) (d : Link) → i < length xs → member x (take (i + 1) xs) ≡ (member x (take i xs) || same link_before x (get_or xs i d))
 member_more x xs i d l = ap (member x) (take_more xs i d l) ∙ member_push x (get_or xs i d) (take i xs)
-
-pub member_hit : (x : Link) (xs : List Link) (i : ℕ) (d : Link) → i < length xs → same link_before x (get_or xs i d) ≡ true → member x (drop i xs) ≡ true
-member_hit x xs i d l e = ap (member x) (drop_more xs i d l) ∙ or_left (same link_before x (get_or xs i d)) (member x (drop (i + 1) xs)) e
-
-pub member_miss : (x : Link) (xs : List Link) (i : ℕ) (d : Link) → i < length xs → same link_before x (get_or xs i d) ≡ false → member x (drop i xs) ≡ member x (drop (i + 1) xs)
-member_miss x xs i d l e = ap (member x) (drop_more xs i d l) ∙ ap (λ b. b || member x (drop (i + 1) xs)) e
 
 -- the smallest so far, with one more
 pub added_more : (n : ℕ) (on : List Link) (i : ℕ) (d : Link) (way : Direction) (node label from : ℕ) (a b : Option ℕ) → i < length on
@@ -80,3 +75,7 @@ module _ (n : ℕ) (way : Direction) (node label from : ℕ) (l : Link) where
       least_only (λ t. inside n (link_with way node label t) && same link_before (link_with way node label t) l) from (other_end way l) h
       (subst (λ v. (inside n v && same link_before v l) ≡ true) e (and_from (inside n l) (same link_before l l) i (same_refl link_before link_order l)))
       (λ t p. only t (and_parts (inside n (link_with way node label t)) (same link_before (link_with way node label t) l) p).1)
+
+  pub one_told : (r : Bool) → from ≤ other_end way l → inside n l ≡ true → r ≡ same link_before l (link_with way node label (other_end way l)) → Gives (then_some r (other_end way l))
+  one_told true h i e = one_found h i (sym e)
+  one_told false h i e = one_other (sym e)

@@ -1,7 +1,8 @@
 -- What an edit makes of a set: links are switched off, then links are switched on.
 use Rattle.std.specs.Prelude.{ℕ, cond, not, ◌&&◌, List, [], ◌∷◌}
 use Rattle.links.specs.declared.link.Link.{Link}
-use Rattle.links.specs.Sets.{inserted, inside, member, removed}
+use Rattle.links.specs.Sets.{LinkSet, inserted, inside, member, removed, with_links}
+use Rattle.link_edits.specs.declared.edit.Edit.{Edit}
 
 -- the set with one link more, if it lies inside the sizes and is not there
 abbrev pub with_link : ℕ → Link → List Link → List Link
@@ -20,3 +21,7 @@ without_all (m ∷ ms) ls = without_all ms (removed m ls)
 -- the set after an edit: those of `off` are off, and then those of `on` are on
 abbrev pub edited : ℕ → List Link → List Link → List Link → List Link
 edited things off on ls = with_all things on (without_all off ls)
+
+-- the set after an edit, with the sizes that it had
+abbrev pub after : Edit → LinkSet → LinkSet
+after e g = with_links (edited g.things e.off.now e.on.now g.links) g

@@ -1,2 +1,4 @@
-pub mod Directions
+pub mod Adjacencies
 pub mod Edits
+pub mod Kept
+pub mod Laws

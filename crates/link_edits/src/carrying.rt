@@ -1,37 +1,21 @@
 // An edit carried out on a store.
-ghost use Rattle.std.specs.Prelude.{◌≡◌, ℕ, ◌≤◌, length};
-ghost use Rattle.link_edits.specs.Edits.{edited, with_all, without_all};
+ghost use Rattle.std.specs.Prelude.{◌≡◌, ◌≤◌, length};
+ghost use Rattle.link_edits.specs.Edits.{after};
+ghost use Rattle.links.specs.Sets.{with_links};
 
 use crate::edit::Edit;
-use links::{Link, Store};
-
-fn switch_all_off<S: Store>(store: &mut S, off: &[Link])
-    ensures links { S.Links.links store.new ≡ without_all off.now (S.Links.links store.old) }
-    ensures things { S.Links.things store.new ≡ S.Links.things store.old }
-    ensures limit { S.Links.limit store.new ≡ S.Links.limit store.old }
-{
-    for link in off {
-        let _ = store.switch_off(*link);
-    }
-}
-
-fn switch_all_on<S: Store>(store: &mut S, on: &[Link])
-    ensures links { length (with_all (S.Links.things store.old) on.now (S.Links.links store.old)) ≤ S.Links.limit store.old → S.Links.links store.new ≡ with_all (S.Links.things store.old) on.now (S.Links.links store.old) }
-    ensures things { S.Links.things store.new ≡ S.Links.things store.old }
-    ensures limit { S.Links.limit store.new ≡ S.Links.limit store.old }
-{
-    for link in on {
-        let _ = store.switch_on(*link);
-    }
-}
+use links::Store;
 
 // Switches the links off, then the links on. Where the edited set is within the limit, the store has it then:
-// no switching that the edit needs is refused.
-pub fn carry_out<S: Store>(store: &mut S, edit: &Edit)
-    ensures links { length (edited (S.Links.things store.old) edit.now.off.now edit.now.on.now (S.Links.links store.old)) ≤ S.Links.limit store.old → S.Links.links store.new ≡ edited (S.Links.things store.old) edit.now.off.now edit.now.on.now (S.Links.links store.old) }
-    ensures things { S.Links.things store.new ≡ S.Links.things store.old }
-    ensures limit { S.Links.limit store.new ≡ S.Links.limit store.old }
+// no switching that the edit needs is refused. The sizes stay in any case.
+pub fn carry_out<S: Store>(store: &mut S, edit: Edit)
+    ensures links { length (after edit.entry (S.Links.set store.old)).links ≤ (S.Links.set store.old).limit → S.Links.set store.new ≡ after edit.entry (S.Links.set store.old) }
+    ensures sizes { S.Links.set store.new ≡ with_links (S.Links.set store.new).links (S.Links.set store.old) }
 {
-    switch_all_off(store, edit.off);
-    switch_all_on(store, edit.on);
+    for link in edit.off {
+        let _ = store.switch_off(*link);
+    }
+    for link in edit.on {
+        let _ = store.switch_on(*link);
+    }
 }

@@ -1,6 +1,5 @@
 ghost use Rattle.std.specs.Prelude.{◌≡◌, ◌&&◌};
-ghost use Rattle.ordered.specs.Order.{same};
-ghost use Rattle.links.specs.Sets.{inside, link_before, member};
+ghost use Rattle.links.specs.Sets.{inside, member};
 
 use links::{Link, Sizes};
 
@@ -12,28 +11,17 @@ pub struct Edit<'a> {
 }
 
 impl<'a> Edit<'a> {
-    // Whether the link lies inside the sizes and is to be on.
-    pub fn puts_on(&self, sizes: Sizes, link: Link) -> bool
-        ensures { result ≡ (inside sizes.things link && member link self.now.on.now) }
+    // Whether the link is to be off.
+    pub fn takes_off(self, link: Link) -> bool
+        ensures { result ≡ member link self.entry.off.now }
     {
-        sizes.contain(link) && contains(self.on, link)
+        self.off.contains(&link)
     }
-}
 
-pub fn is_same(link: Link, other: Link) -> bool
-    ensures { result ≡ same link_before link other }
-{
-    link == other
-}
-
-// Whether the link is one of these.
-pub fn contains(links: &[Link], link: Link) -> bool
-    ensures { result ≡ member link links.now }
-{
-    for other in links {
-        if is_same(link, *other) {
-            return true;
-        }
+    // Whether the link lies inside the sizes and is to be on.
+    pub fn puts_on(self, sizes: Sizes, link: Link) -> bool
+        ensures { result ≡ (inside sizes.things link && member link self.entry.on.now) }
+    {
+        sizes.contain(link) && self.on.contains(&link)
     }
-    false
 }

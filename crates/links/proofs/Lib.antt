@@ -1,3 +1,4 @@
+pub mod Equality
 pub mod Inside
 pub mod Order
 pub mod Ranges

@@ -6,7 +6,7 @@ ghost use Rattle.links.specs.Order.{link_order};
 use ordered::Keyed;
 
 // A link from a thing, under a label, to a thing or a mark. Nodes below 64 are marks, the others things.
-#[derive(Clone, Copy, PartialEq, Eq, PartialOrd, Ord, Debug)]
+#[derive(Clone, Copy, PartialEq, Eq, PartialOrd, Ord, Default, Debug)]
 pub struct Link {
     pub source: u32,
     pub label: u32,

@@ -8,12 +8,10 @@ use Rattle.links.specs.declared.link.Link.{Link}
 use Rattle.links.specs.Sets.{link_before, rising, member, inserted, removed, inside}
 use Rattle.links.specs.Order.{link_order}
 use Rattle.links.proofs.Order.{same_is, same_members}
-use Rattle.link_edits.proofs.Edits.{member_edited, rising_edited}
+use Rattle.link_edits.specs.Kept.{rising_edited}
+use Rattle.link_edits.proofs.Edits.{member_edited}
 use Rattle.link_edits.proofs.Loops.{member_push}
-use Rattle.held_store.specs.Layers.{Layer, set_in, held_in, sent_down, held_on, held_off, back_off, back_on, below_off, on_held, off_held, turned_on, turned_off}
-
-abbrev pub layer : List Link → List Link → List Link → Layer
-layer below off on = record { below = below; off = off; on = on }
+use Rattle.held_store.specs.Layers.{Layer, layer, set_in, held_in, sent_down, held_on, held_off, back_off, back_on, below_off, on_held, off_held, turned_on, turned_off}
 
 pub layer_is : (b b' f f' o o' : List Link) → b ≡ b' → f ≡ f' → o ≡ o' → layer b f o ≡ layer b' f' o'
 layer_is b b' f f' o o' p q r = ap (λ v. layer v f o) p ∙ ap (λ v. layer b' v o) q ∙ ap (λ v. layer b' f' v) r

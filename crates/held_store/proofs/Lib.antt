@@ -1,4 +1,4 @@
 pub mod Changes
 pub mod Layers
-pub mod Rows
+pub mod Removing
 pub mod Undone

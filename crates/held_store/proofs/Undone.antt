@@ -8,11 +8,11 @@ use Rattle.links.specs.declared.link.Link.{Link}
 use Rattle.links.specs.Sets.{link_before, member, removed, inside}
 use Rattle.links.specs.Order.{link_order}
 use Rattle.link_edits.proofs.Edits.{member_edited}
-use Rattle.held_store.specs.Layers.{Layer, Fresh, set_in, held_in, sent_down, held_on, held_off, back_off, back_on, on_held, off_held, turned_on, turned_off}
+use Rattle.held_store.specs.Layers.{Layer, Fresh, layer, set_in, held_in, sent_down, held_on, held_off, back_off, back_on, on_held, off_held, turned_on, turned_off}
 use Rattle.held_store.specs.Undoing.{OnUndone, OffUndone}
-use Rattle.held_store.proofs.Rows.{removed_push}
+use Rattle.held_store.proofs.Removing.{removed_push}
 use Rattle.held_store.proofs.Changes.{removed_short}
-use Rattle.held_store.proofs.Layers.{layer, on_room, on_seventeenth, off_room, off_seventeenth}
+use Rattle.held_store.proofs.Layers.{on_room, on_seventeenth, off_room, off_seventeenth}
 
 removed_shorter : (l : Link) (xs : List Link) → member l xs ≡ true → length (removed l xs) + 1 ≤ length xs
 removed_shorter l [] m = absurd (both_ways false refl m)

@@ -11,6 +11,10 @@ pub record Layer : Type 0 where
   pub off : List Link
   pub on : List Link
 
+-- a layer with these links below, off and on
+abbrev pub layer : List Link → List Link → List Link → Layer
+layer below off on = record { below = below; off = off; on = on }
+
 -- the layer's own set: the one below, with the held changes counted
 abbrev pub set_in : ℕ → Layer → List Link
 set_in things s = edited things s.off s.on s.below

@@ -1,4 +1,3 @@
-pub mod Items
 pub mod Layers
 pub mod Meaning
 pub mod Undoing

@@ -1,7 +1,6 @@
 // A layer over any store that holds up to sixteen changes back, and is a store itself.
 #![tactic(auto)]
 
-mod row;
 mod store;
 mod undoing;
 

@@ -1,7 +1,7 @@
 // An edit carried out on a store.
-ghost use Rattle.std.specs.Prelude.{◌≡◌, ◌≤◌, length};
+ghost use Rattle.std.specs.Prelude.{◌≡◌};
 ghost use Rattle.link_edits.specs.Edits.{after};
-ghost use Rattle.links.specs.Sets.{with_links};
+ghost use Rattle.links.specs.Sets.{KeepsSizes, Within};
 
 use crate::edit::Edit;
 use links::Store;
@@ -9,8 +9,8 @@ use links::Store;
 // Switches the links off, then the links on. Where the edited set is within the limit, the store has it then:
 // no switching that the edit needs is refused. The sizes stay in any case.
 pub fn carry_out<S: Store>(store: &mut S, edit: Edit)
-    ensures links { length (after edit.entry (S.Links.set store.old)).links ≤ (S.Links.set store.old).limit → S.Links.set store.new ≡ after edit.entry (S.Links.set store.old) }
-    ensures sizes { S.Links.set store.new ≡ with_links (S.Links.set store.new).links (S.Links.set store.old) }
+    ensures links { Within (after edit.entry (S.Links.set store.old)) → S.Links.set store.new ≡ after edit.entry (S.Links.set store.old) }
+    ensures sizes { KeepsSizes (S.Links.set store.old) (S.Links.set store.new) }
 {
     for link in edit.off {
         let _ = store.switch_off(*link);

@@ -1,5 +1,5 @@
 -- A set of links is the strictly rising list of its links.
-use Rattle.std.specs.Prelude.{◌≡◌, ℕ, ◌+◌, ◌≤◌, Bool, true, false, ◌&&◌, ◌||◌, List, [], ◌∷◌, ◌==◌, nat_le, nat_lt}
+use Rattle.std.specs.Prelude.{◌≡◌, ℕ, ◌+◌, ◌≤◌, Bool, true, false, ◌&&◌, ◌||◌, List, [], ◌∷◌, ◌==◌, length, nat_le, nat_lt}
 use Rattle.ordered.specs.Order.{ascending, has, placed, without}
 use Rattle.links.specs.declared.link.Link.{Link}
 
@@ -59,6 +59,14 @@ pub record LinkSet : Type 0 where
 -- the set of these links, with the sizes of another
 abbrev pub with_links : List Link → LinkSet → LinkSet
 with_links ls g = record { things = g.things; limit = g.limit; links = ls }
+
+-- the set has no more links than its limit
+abbrev pub Within : LinkSet → Type 0
+Within g = length g.links ≤ g.limit
+
+-- the sizes of the old set are those of the new one
+abbrev pub KeepsSizes : LinkSet → LinkSet → Type 0
+KeepsSizes old new = new ≡ with_links new.links old
 
 -- what holds of every value of a type that means a set of links
 pub record Lawful {X : Type 0} (set : X → LinkSet) : Type 0 where

@@ -1,10 +1,10 @@
-ghost use Rattle.std.specs.Prelude.{◌≡◌, ℕ, ◌≤◌, [], length};
-ghost use Rattle.held_store.specs.Items.{items};
-ghost use Rattle.held_store.specs.Layers.{Fresh, held_in, nothing_held, off_held, on_held, sent_down};
+ghost use Rattle.std.specs.Prelude.{◌≡◌, true, false};
+ghost use Rattle.links.specs.Sets.{KeepsSizes, Within, member};
+ghost use Rattle.held_store.specs.Layers.{held_in, nothing_held, off_held, on_held, sent_down};
 ghost use Rattle.held_store.specs.Meaning.{layer_of, set_of};
 
 use super::HeldStore;
-use crate::row::Row;
+use arrayvec::ArrayVec;
 use link_edits::{Edit, carry_out};
 use links::{Link, Links, Store};
 
@@ -12,13 +12,12 @@ impl<S: Store> HeldStore<S> {
     // A layer that holds nothing.
     pub fn new(base: S) -> HeldStore<S>
         ensures base { result.base ≡ base }
-        ensures layer { layer_of S.Links result ≡ nothing_held (S.Links.links base) }
-        ensures fresh { Fresh (layer_of S.Links result) }
+        ensures layer { layer_of S.Links result ≡ nothing_held (S.Links.set base).links }
     {
         HeldStore {
             base,
-            off: Row::empty(),
-            on: Row::empty(),
+            off: ArrayVec::new(),
+            on: ArrayVec::new(),
         }
     }
 
@@ -32,60 +31,58 @@ impl<S: Store> HeldStore<S> {
     // Sends the held changes down, those off before those on. The store below takes them all,
     // unless the set has more links than its limit, which switching does not make.
     pub(super) fn send_down(&mut self)
-        ensures down { length (set_of S.Links self.old) ≤ S.Links.limit self.old.base → S.Links.links self.new.base ≡ set_of S.Links self.old }
-        ensures none { (items self.new.off ≡ []) × (items self.new.on ≡ []) }
-        ensures things { S.Links.things self.new.base ≡ S.Links.things self.old.base }
-        ensures limit { S.Links.limit self.new.base ≡ S.Links.limit self.old.base }
+        ensures down { Within (set_of S.Links self.old) → S.Links.set self.new.base ≡ set_of S.Links self.old }
+        ensures none { layer_of S.Links self.new ≡ nothing_held (S.Links.set self.new.base).links }
+        ensures sizes { KeepsSizes (S.Links.set self.old.base) (S.Links.set self.new.base) }
     {
-        let off = self.off;
-        let on = self.on;
         let edit = Edit {
-            off: off.as_slice(),
-            on: on.as_slice(),
+            off: self.off.as_slice(),
+            on: self.on.as_slice(),
         };
-        carry_out(&mut self.base, &edit);
-        self.off = Row::empty();
-        self.on = Row::empty();
+        carry_out(&mut self.base, edit);
+        self.off.clear();
+        self.on.clear();
     }
 
     // Sends the held changes down, and answers how many there were.
     pub fn settle(&mut self) -> usize
         ensures told { result ≡ held_in (layer_of S.Links self.old) }
         ensures none { held_in (layer_of S.Links self.new) ≡ 0 }
-        ensures down { length (set_of S.Links self.old) ≤ S.Links.limit self.old.base → layer_of S.Links self.new ≡ sent_down (S.Links.things self.old.base) (layer_of S.Links self.old) }
-        ensures fresh { Fresh (layer_of S.Links self.new) }
-        ensures links { length (set_of S.Links self.old) ≤ S.Links.limit self.old.base → set_of S.Links self.new ≡ set_of S.Links self.old }
-        ensures things { S.Links.things self.new.base ≡ S.Links.things self.old.base }
-        ensures limit { S.Links.limit self.new.base ≡ S.Links.limit self.old.base }
+        ensures down { Within (set_of S.Links self.old) → layer_of S.Links self.new ≡ sent_down (S.Links.set self.old.base).things (layer_of S.Links self.old) }
+        ensures links { Within (set_of S.Links self.old) → set_of S.Links self.new ≡ set_of S.Links self.old }
+        ensures sizes { KeepsSizes (S.Links.set self.old.base) (S.Links.set self.new.base) }
     {
         let held = self.held_count();
         self.send_down();
         held
     }
 
-    // Holds the link on; a seventeenth change first sends the others down.
+    // Holds the link on, which is off; a seventeenth change first sends the others down.
     pub(super) fn hold_on(&mut self, link: Link)
-        ensures layer { length (set_of S.Links self.old) ≤ S.Links.limit self.old.base → layer_of S.Links self.new ≡ on_held (S.Links.things self.old.base) link (layer_of S.Links self.old) }
-        ensures things { S.Links.things self.new.base ≡ S.Links.things self.old.base }
-        ensures limit { S.Links.limit self.new.base ≡ S.Links.limit self.old.base }
+        requires above { member link (set_of S.Links self.old).links ≡ false }
+        requires below { member link (S.Links.set self.old.base).links ≡ false }
+        requires within { Within (set_of S.Links self.old) }
+        ensures layer { layer_of S.Links self.new ≡ on_held (S.Links.set self.old.base).things link (layer_of S.Links self.old) }
+        ensures sizes { KeepsSizes (S.Links.set self.old.base) (S.Links.set self.new.base) }
     {
         if self.held_count() < 16 {
-            self.on = self.on.with(link);
+            self.on.push(link);
             return;
         }
         self.send_down();
-        self.on = Row::empty().with(link);
+        self.on.push(link);
     }
 
-    // Holds the link off; a seventeenth change first sends the others down. A set past the limit,
+    // Holds the link off, which is on; a seventeenth change first sends the others down. A set past the limit,
     // which switching does not make, would not go down whole: the link is then switched off below.
     pub(super) fn hold_off(&mut self, link: Link)
-        ensures layer { layer_of S.Links self.new ≡ off_held (S.Links.things self.old.base) (S.Links.limit self.old.base) link (layer_of S.Links self.old) }
-        ensures things { S.Links.things self.new.base ≡ S.Links.things self.old.base }
-        ensures limit { S.Links.limit self.new.base ≡ S.Links.limit self.old.base }
+        requires above { member link (set_of S.Links self.old).links ≡ true }
+        requires below { member link (S.Links.set self.old.base).links ≡ true }
+        ensures layer { layer_of S.Links self.new ≡ off_held (S.Links.set self.old.base).things (S.Links.set self.old.base).limit link (layer_of S.Links self.old) }
+        ensures sizes { KeepsSizes (S.Links.set self.old.base) (S.Links.set self.new.base) }
     {
         if self.held_count() < 16 {
-            self.off = self.off.with(link);
+            self.off.push(link);
             return;
         }
         if self.link_count() > self.base.sizes().limit() {
@@ -93,6 +90,6 @@ impl<S: Store> HeldStore<S> {
             return;
         }
         self.send_down();
-        self.off = Row::empty().with(link);
+        self.off.push(link);
     }
 }

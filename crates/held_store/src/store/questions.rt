@@ -1,29 +1,29 @@
 ghost use Rattle.std.specs.Prelude.{◌≡◌};
-ghost use Rattle.held_store.specs.Items.{items};
 ghost use Rattle.held_store.specs.Meaning.{held_lawful, set_of};
 
 use super::HeldStore;
-use link_edits::{Direction, Edit, count_after, is_on_after, next_after, spare_after};
+use link_edits::{Edit, Edited};
 use links::{Link, Links, Sizes, Store};
 
 impl<S: Store> HeldStore<S> {
-    // The held changes.
-    fn edit(&self) -> Edit<'_>
-        ensures { (result.off.now ≡ items self.now.off) × (result.on.now ≡ items self.now.on) }
+    // The set with the held changes counted.
+    fn view(&self) -> Edited<'_, S>
+        ensures base { result.base.now ≡ self.now.base }
+        ensures off { result.edit.off.now ≡ self.now.off.items }
+        ensures on { result.edit.on.now ≡ self.now.on.items }
     {
-        Edit {
-            off: self.off.as_slice(),
-            on: self.on.as_slice(),
+        Edited {
+            base: &self.base,
+            edit: Edit {
+                off: self.off.as_slice(),
+                on: self.on.as_slice(),
+            },
         }
     }
 }
 
 impl<S: Store> Links for HeldStore<S> {
-    ghost links = { λ s. set_of S.Links s };
-
-    ghost things = { λ s. S.Links.things s.base };
-
-    ghost limit = { λ s. S.Links.limit s.base };
+    ghost set = { set_of S.Links };
 
     ghost lawful = { held_lawful S.Links };
 
@@ -32,36 +32,18 @@ impl<S: Store> Links for HeldStore<S> {
     }
 
     fn link_count(&self) -> usize {
-        count_after(&self.base, &self.edit())
+        self.view().link_count()
     }
 
     fn is_on(&self, link: Link) -> bool {
-        is_on_after(&self.base, &self.edit(), link)
+        self.view().is_on(link)
     }
 
     fn next_target(&self, source: u32, label: u32, from: u32) -> Option<u32> {
-        next_after(
-            &self.base,
-            &self.edit(),
-            Direction::Outgoing,
-            source,
-            label,
-            from,
-        )
+        self.view().next_target(source, label, from)
     }
 
     fn next_source(&self, target: u32, label: u32, from: u32) -> Option<u32> {
-        next_after(
-            &self.base,
-            &self.edit(),
-            Direction::Incoming,
-            target,
-            label,
-            from,
-        )
-    }
-
-    fn spare_thing(&self) -> Option<u32> {
-        spare_after(&self.base, &self.edit())
+        self.view().next_source(target, label, from)
     }
 }

@@ -1,22 +1,25 @@
-ghost use Rattle.std.specs.Prelude.{◌≡◌, ℕ, ◌≤◌};
-ghost use Rattle.links.specs.Answers.{Switched, off_refusal, on_refusal};
-ghost use Rattle.links.specs.Sets.{inserted, removed};
-ghost use Rattle.held_store.specs.Layers.{Fresh, Held, held_in, turned_off, turned_on};
+ghost use Rattle.std.specs.Prelude.{◌≡◌};
+ghost use Rattle.links.specs.Answers.{SwitchedOff, SwitchedOn};
+ghost use Rattle.links.specs.Sets.{removed};
+ghost use Rattle.held_store.specs.Layers.{Held, turned_off, turned_on};
 ghost use Rattle.held_store.specs.Meaning.{layer_of, set_of};
 
 use super::HeldStore;
+use arrayvec::ArrayVec;
 use links::{Link, Links, Store, SwitchRefusal};
 
-// Beside what every store promises: what is held and what lies below, that no more than sixteen
-// changes are held, and that each of them differs from what lies below.
+// Takes a held change back.
+fn take_back(held: &mut ArrayVec<Link, 16>, link: Link)
+    ensures { held.new.items ≡ removed link held.old.items }
+{
+    held.retain(|other| *other != link);
+}
+
+// Beside what every store promises: what is held and what lies below.
 impl<S: Store> Store for HeldStore<S> {
     fn switch_on(&mut self, link: Link) -> Result<(), SwitchRefusal>
-        ensures links { Switched (on_refusal (S.Links.things self.old.base) (S.Links.limit self.old.base) (set_of S.Links self.old) link) (set_of S.Links self.old) (inserted link (set_of S.Links self.old)) result (set_of S.Links self.new) }
-        ensures things { S.Links.things self.new.base ≡ S.Links.things self.old.base }
-        ensures limit { S.Links.limit self.new.base ≡ S.Links.limit self.old.base }
-        ensures layer { Held (layer_of S.Links self.old) (turned_on (S.Links.things self.old.base) link (layer_of S.Links self.old)) result (layer_of S.Links self.new) }
-        ensures few { held_in (layer_of S.Links self.old) ≤ 16 → held_in (layer_of S.Links self.new) ≤ 16 }
-        ensures fresh { Fresh (layer_of S.Links self.old) → Fresh (layer_of S.Links self.new) }
+        ensures switched { SwitchedOn link (set_of S.Links self.old) result (set_of S.Links self.new) }
+        ensures layer { Held (layer_of S.Links self.old) (turned_on (S.Links.set self.old.base).things link (layer_of S.Links self.old)) result (layer_of S.Links self.new) }
     {
         let sizes = self.base.sizes();
         if !sizes.contain(link) {
@@ -29,20 +32,16 @@ impl<S: Store> Store for HeldStore<S> {
             return Err(SwitchRefusal::Full);
         }
         if self.base.is_on(link) {
-            self.off = self.off.without(link);
-            return Ok(());
+            take_back(&mut self.off, link);
+        } else {
+            self.hold_on(link);
         }
-        self.hold_on(link);
         Ok(())
     }
 
     fn switch_off(&mut self, link: Link) -> Result<(), SwitchRefusal>
-        ensures links { Switched (off_refusal (S.Links.things self.old.base) (set_of S.Links self.old) link) (set_of S.Links self.old) (removed link (set_of S.Links self.old)) result (set_of S.Links self.new) }
-        ensures things { S.Links.things self.new.base ≡ S.Links.things self.old.base }
-        ensures limit { S.Links.limit self.new.base ≡ S.Links.limit self.old.base }
-        ensures layer { Held (layer_of S.Links self.old) (turned_off (S.Links.things self.old.base) (S.Links.limit self.old.base) link (layer_of S.Links self.old)) result (layer_of S.Links self.new) }
-        ensures few { held_in (layer_of S.Links self.old) ≤ 16 → held_in (layer_of S.Links self.new) ≤ 16 }
-        ensures fresh { Fresh (layer_of S.Links self.old) → Fresh (layer_of S.Links self.new) }
+        ensures switched { SwitchedOff link (set_of S.Links self.old) result (set_of S.Links self.new) }
+        ensures layer { Held (layer_of S.Links self.old) (turned_off (S.Links.set self.old.base).things (S.Links.set self.old.base).limit link (layer_of S.Links self.old)) result (layer_of S.Links self.new) }
     {
         if !self.base.sizes().contain(link) {
             return Err(SwitchRefusal::NoSuchLink);
@@ -51,7 +50,7 @@ impl<S: Store> Store for HeldStore<S> {
             return Err(SwitchRefusal::NotOn);
         }
         let below = self.base.is_on(link);
-        self.on = self.on.without(link);
+        take_back(&mut self.on, link);
         if below {
             self.hold_off(link);
         }

@@ -1,55 +1,73 @@
-use Rattle.std.proofs.Common.{◌≡◌, ◌≤◌, true, sym, refl, ap, ◌∙◌, subst}
+use Rattle.std.proofs.Common.{◌≡◌, true, length, sym, ap, ◌∙◌, subst, arith}
 use Rattle.std.proofs.lemmas.Bool.{cond-true, cond-false}
-use Rattle.links.specs.Sets.{inside, member}
+use Rattle.links.specs.Sets.{inside, member, with_links}
 use Rattle.links.proofs.Switching.{off_taken}
-use Rattle.held_store.specs.Items.{items}
-use Rattle.held_store.specs.Layers.{Fresh, set_in, held_in, back_on, off_held, turned_off}
+use Rattle.held_store.specs.Layers.{Fresh, layer, set_in, back_on, off_held}
 use Rattle.held_store.specs.Meaning.{layer_of, set_of}
-use Rattle.held_store.proofs.Layers.{layer, set_off}
-use Rattle.held_store.proofs.Changes.{few_off, fresh_off}
+use Rattle.held_store.proofs.Layers.{set_off}
+use Rattle.held_store.proofs.Changes.{fresh_back_on, not_held_off, removed_short, still_on}
 use Rattle.held_store.proofs.store.switching.HeldStoreStore.switch_off.Goals as goal
 
-pub returns-then-below : goal.returns-then-below
-returns-then-below g c =
+pub invariant_of-self : goal.invariant_of-self
+invariant_of-self g c =
+    let s = c.args.self.now in
+    let L = g.S.Links in
+    let l = c.args.link in
+    record {
+      few = omega (arith, ap length c.take_back.ensures, removed_short l s.on.items, s.few);
+      fresh = subst (λ v. Fresh (layer (L.set s.base).links s.off.items v)) (sym c.take_back.ensures) (fresh_back_on l (layer_of L s) s.fresh);
+    }
+
+pub hold_off-requires-clause-above : goal.hold_off-requires-clause-above
+hold_off-requires-clause-above g c =
+    let s = c.args.self.now in
+    let L = g.S.Links in
+    let b = L.set s.base in
+    let l = c.args.link in
+    let below = sym c.if-below.ensures in
+    let free = not_held_off l (layer_of L s) s.fresh b.things (sym c.if-not-is_on.ensures) below in
+    ap (λ v. member l (set_in b.things (layer b.links s.off.items v))) c.take_back.ensures ∙ still_on b.things l (back_on l (layer_of L s)) free below
+
+pub returns-then-below-clause-layer : goal.returns-then-below-clause-layer
+returns-then-below-clause-layer g c =
+    let s = c.args.self.now in
+    let L = g.S.Links in
+    let b = L.set s.base in
+    let l = c.args.link in
+    c.hold_off.ensures.layer
+    ∙ ap (λ v. off_held b.things b.limit l (layer b.links s.off.items v)) c.take_back.ensures
+    ∙ sym (cond-true (member l b.links) (off_held b.things b.limit l (back_on l (layer_of L s))) (back_on l (layer_of L s)) (sym c.if-below.ensures))
+
+pub returns-then-below-clause-switched : goal.returns-then-below-clause-switched
+returns-then-below-clause-switched g c =
     let s = c.args.self.now in
     let t = c.hold_off.new.self in
     let L = g.S.Links in
-    let n = L.things s.base in
-    let m = L.limit s.base in
+    let b = L.set s.base in
     let l = c.args.link in
-    let within : inside n l ≡ true = subst (λ v. inside v l ≡ true) c.sizes.ensures.things (sym c.if-not-contain.ensures) in
-    let on = sym c.if-not-is_on.ensures in
-    let back = ap (λ v. layer (L.links s.base) (items s.off) v) c.without-self.ensures.is in
-    let now-is : layer_of L t ≡ turned_off n m l (layer_of L s) =
-    c.hold_off.ensures.layer ∙ ap (off_held n m l) back ∙ sym (cond-true (member l (L.links s.base)) (off_held n m l (back_on l (layer_of L s))) (back_on l (layer_of L s)) (sym c.if-below.ensures)) in
-    record {
-      links = (
-        off_taken n m (set_of L s) l within on,
-        ap (λ v. set_in v (layer_of L t)) c.hold_off.ensures.things ∙ ap (set_in n) now-is ∙ set_off n l m (layer_of L s) (L.lawful.rises s.base),
-      );
-      things = c.hold_off.ensures.things;
-      limit = c.hold_off.ensures.limit;
-      layer = now-is;
-      few = λ h. subst (λ v. held_in v ≤ 16) (sym now-is) (few_off n m l (layer_of L s) h);
-      fresh = λ f. subst (λ v. Fresh v) (sym now-is) (fresh_off n m l (layer_of L s) f on);
-    }
+    let within : inside b.things l ≡ true = subst (λ v. inside v l ≡ true) c.sizes.ensures.things (sym c.if-not-contain.ensures) in (
+      off_taken (set_of L s) l within (sym c.if-not-is_on.ensures),
+      ap (λ v. with_links (set_in v.things (layer_of L t)) v) c.hold_off.ensures.sizes
+          ∙ ap (λ v. with_links (set_in b.things v) b) (returns-then-below-clause-layer g c)
+          ∙ ap (λ v. with_links v b) (set_off b.things l b.limit (layer_of L s) (L.lawful.rises s.base)),
+    )
 
-pub returns-else-below : goal.returns-else-below
-returns-else-below g c =
+pub returns-else-below-clause-layer : goal.returns-else-below-clause-layer
+returns-else-below-clause-layer g c =
     let s = c.args.self.now in
     let L = g.S.Links in
-    let n = L.things s.base in
-    let m = L.limit s.base in
+    let b = L.set s.base in
     let l = c.args.link in
-    let within : inside n l ≡ true = subst (λ v. inside v l ≡ true) c.sizes.ensures.things (sym c.if-not-contain.ensures) in
-    let on = sym c.if-not-is_on.ensures in
-    let now-is : layer (L.links s.base) (items s.off) (items c.without-self.result) ≡ turned_off n m l (layer_of L s) =
-    ap (λ v. layer (L.links s.base) (items s.off) v) c.without-self.ensures.is ∙ sym (cond-false (member l (L.links s.base)) (off_held n m l (back_on l (layer_of L s))) (back_on l (layer_of L s)) (sym c.if-below.ensures)) in
-    record {
-      links = (off_taken n m (set_of L s) l within on, ap (set_in n) now-is ∙ set_off n l m (layer_of L s) (L.lawful.rises s.base));
-      things = refl;
-      limit = refl;
-      layer = now-is;
-      few = λ h. subst (λ v. held_in v ≤ 16) (sym now-is) (few_off n m l (layer_of L s) h);
-      fresh = λ f. subst (λ v. Fresh v) (sym now-is) (fresh_off n m l (layer_of L s) f on);
-    }
+    ap (λ v. layer b.links s.off.items v) c.take_back.ensures
+    ∙ sym (cond-false (member l b.links) (off_held b.things b.limit l (back_on l (layer_of L s))) (back_on l (layer_of L s)) (sym c.if-below.ensures))
+
+pub returns-else-below-clause-switched : goal.returns-else-below-clause-switched
+returns-else-below-clause-switched g c =
+    let s = c.args.self.now in
+    let L = g.S.Links in
+    let b = L.set s.base in
+    let l = c.args.link in
+    let within : inside b.things l ≡ true = subst (λ v. inside v l ≡ true) c.sizes.ensures.things (sym c.if-not-contain.ensures) in (
+      off_taken (set_of L s) l within (sym c.if-not-is_on.ensures),
+      ap (λ v. with_links (set_in b.things v) b) (returns-else-below-clause-layer g c) ∙ ap (λ v. with_links v b) (set_off b.things l b.limit (layer_of L s) (L.lawful.rises s.base)),
+    )

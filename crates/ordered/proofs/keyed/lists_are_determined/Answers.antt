@@ -1,5 +1,5 @@
 use Rattle.ordered.proofs.Laws.{same_lookups, same_members}
-use Rattle.ordered.proofs.list.lists_are_determined.Goals as goal
+use Rattle.ordered.proofs.keyed.lists_are_determined.Goals as goal
 
 pub returns : goal.returns
 returns g c = record {

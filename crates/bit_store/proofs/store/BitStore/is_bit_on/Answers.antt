@@ -1,6 +1,6 @@
 use Rattle.std.proofs.Common.{rules}
 use Rattle.bit_store.specs.Places.{bit_on}
-use Rattle.bit_store.proofs.store.questions.is_bit_on.Goals as goal
+use Rattle.bit_store.proofs.store.BitStore.is_bit_on.Goals as goal
 
 pub returns : goal.returns
 unfolding bit_on

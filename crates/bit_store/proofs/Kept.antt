@@ -1,6 +1,8 @@
 -- The links whose bits are on: members, and one bit switched.
-use Rattle.std.proofs.Common.{◌≡◌, ℕ, ◌*◌, ◌/◌, ◌%◌, ◌^◌, ◌<◌, ◌≤◌, true, false, eqb, List, [], length, get_or, set, ap, ◌∙◌, subst, arith}
+use Rattle.std.proofs.Common.{◌≡◌, ℕ, ◌*◌, ◌/◌, ◌%◌, ◌^◌, ◌<◌, ◌≤◌, true, false, eqb, List, [], ◌++◌, length, get_or, set, replicate, ap, ◌∙◌, subst, arith}
 use native.Mathlib.Nat.{zero-div}
+use Rattle.std.proofs.Math.ListN.{get_or-append}
+use Rattle.std.proofs.lemmas.List.{get_or-replicate, length-replicate}
 use Rattle.links.specs.declared.link.Link.{Link}
 use Rattle.links.specs.Sets.{member, inserted, removed, inside, all_inside, rising}
 use Rattle.bit_store.specs.Places.{place, link_at, places, bit_on, links_in}
@@ -9,13 +11,16 @@ use Rattle.links.proofs.Inside.{member_outside}
 use Rattle.bit_store.proofs.Digits.{bit_on_written, bit_on_kept}
 use Rattle.bit_store.proofs.Placing.{place_below, link_at_place, inside_link_at, link_at_rises}
 
-bit_cleared : (ws : List ℕ) (b : ℕ) → get_or ws (b / 32) 0 ≡ 0 → bit_on ws b ≡ false
+pub bit_cleared : (ws : List ℕ) (b : ℕ) → get_or ws (b / 32) 0 ≡ 0 → bit_on ws b ≡ false
 unfolding bit_on
 bit_cleared ws b z = ap (λ (x : ℕ). eqb (x / 2 ^ (b % 32) % 2) 1) z ∙ ap (λ (x : ℕ). eqb (x % 2) 1) (zero-div (2 ^ (b % 32)))
 
--- words that are 0 as far as the bits reach
-pub links_cleared : (ws : List ℕ) (t n : ℕ) → places t ≤ 32 * n → ((k : ℕ) → k < n → get_or ws k 0 ≡ 0) → links_in ws t ≡ []
-links_cleared ws t n h z = passing_none (link_at t) (link_at_rises t) (bit_on ws) 0 (places t) (λ i l. bit_cleared ws i (z (i / 32) (omega arith)))
+-- words that begin with as many zeros as the bits reach
+pub links_cleared : (zs ws : List ℕ) (t n : ℕ) → zs ≡ replicate n 0 → places t ≤ 32 * n → links_in (zs ++ ws) t ≡ []
+links_cleared zs ws t n z h =
+    let l = length-replicate {A = ℕ} n 0 in
+    let read : (k : ℕ) → k < n → get_or (zs ++ ws) k 0 ≡ 0 = λ k m. ap (λ v. get_or (v ++ ws) k 0) z ∙ get_or-append (replicate n 0) ws 0 k (omega (arith, l)) ∙ get_or-replicate n k 0 0 m in
+    passing_none (link_at t) (link_at_rises t) (bit_on (zs ++ ws)) 0 (places t) (λ i m. bit_cleared (zs ++ ws) i (read (i / 32) (omega arith)))
 
 pub rising_links : (ws : List ℕ) (t : ℕ) → rising (links_in ws t) ≡ true
 rising_links ws t = rising_passing (link_at t) (link_at_rises t) (bit_on ws) 0 (places t)

@@ -1,5 +1,5 @@
 -- The place of a link, and the link of a place.
-use Rattle.std.proofs.Common.{◌≡◌, ℕ, ◌+◌, ◌-◌, ◌*◌, ◌/◌, ◌%◌, ◌<◌, ◌≤◌, true, false, ◌&&◌, ltb, leb, ◌⊎◌, ap, ◌∙◌, subst, inl, inr, ⊎_elim, mul_comm, arith}
+use Rattle.std.proofs.Common.{◌≡◌, ℕ, zero, suc, ◌+◌, ◌-◌, ◌*◌, ◌/◌, ◌%◌, ◌<◌, ◌≤◌, true, false, ◌&&◌, ltb, leb, ◌⊎◌, ap, ◌∙◌, subst, inl, inr, ⊎_elim, mul_comm, arith}
 use Rattle.std.proofs.lemmas.Nat.{mul-add-lt, div-mul-add, mod-mul-add, div_below, mod_below, div-add-mod'}
 use Rattle.std.proofs.lemmas.Bool.{cases_order, and_parts, ltb-true, leb-true}
 use Rattle.std.proofs.lemmas.Bool.Decides.{nat_tests}
@@ -74,6 +74,9 @@ pub target_below : (t s b x : ℕ) → x ≤ place t (link_of s b x)
 unfolding place
 target_below t s b x = omega arith
 
+pub target_small : (t s b x : ℕ) → inside t (link_of s b x) ≡ true → x < 64 + t
+target_small t s b x h = (sized t (link_of s b x) h).target
+
 pub run_below : (t s b x : ℕ) → inside t (link_of s b x) ≡ true → place t (link_of s b x) + 64 + t ≤ places t + x
 run_below t s b x h =
     let z = sized t (link_of s b x) h in
@@ -90,9 +93,17 @@ pub words_hold : (t : ℕ) → places t ≤ 32 * words_for t
 words_hold t = omega arith
 
 -- the places of one label and target are a stride apart
-pub place_stride : (t s b x : ℕ) → 64 ≤ s → place t (link_of (s + 1) b x) ≡ place t (link_of s b x) + 16 * (64 + t)
+place_stride : (t s b x : ℕ) → 64 ≤ s → place t (link_of (s + 1) b x) ≡ place t (link_of s b x) + 16 * (64 + t)
 unfolding place
 place_stride t s b x h = let e : s + 1 - 64 ≡ s - 64 + 1 = omega arith in rw e (omega arith)
+
+pub place_strides : (t s b x : ℕ) (k : ℕ) → 64 ≤ s → place t (link_of (s + k) b x) ≡ place t (link_of s b x) + k * (16 * (64 + t))
+place_strides t s b x zero h = let e : s + zero ≡ s = omega arith in ap (λ v. place t (link_of v b x)) e ∙ omega arith
+place_strides t s b x (suc k) h =
+    let step = place_stride t (s + k) b x (omega arith) in
+    let r = place_strides t s b x k h in
+    let e : s + suc k ≡ s + k + 1 = omega arith in
+    ap (λ v. place t (link_of v b x)) e ∙ omega (arith, step, r)
 
 pub outside_column : (t s b x y : ℕ) → inside t (link_of s b x) ≡ false → 64 ≤ s → s ≤ y → inside t (link_of y b x) ≡ false
 outside_column t s b x y h k l = grind (arith, nat_tests)

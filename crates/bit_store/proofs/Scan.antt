@@ -1,10 +1,12 @@
 -- The lowest digit that is set, of a word and of a list of words from a place on.
-use Rattle.std.proofs.Common.{◌≡◌, ℕ, zero, suc, ◌+◌, ◌-◌, ◌*◌, ◌/◌, ◌%◌, ◌^◌, ◌<◌, ◌≤◌, true, false, eqb, List, get_or, sym, refl, ap, ◌∙◌, subst, ⊎_elim, div-one, add-one, one-add, arith}
+use Rattle.std.proofs.Common.{◌≡◌, ℕ, zero, suc, ◌+◌, ◌-◌, ◌*◌, ◌/◌, ◌%◌, ◌^◌, ◌<◌, ◌≤◌, Bool, true, false, eqb, ltb, List, get_or, Option, sym, refl, ap, ◌∙◌, subst, ⊎_elim, div-one, add-one, one-add, arith}
 use native.Mathlib.Nat.{div-eq_of_lt, zero-div}
 use lib.Count.{count_trailing_zeros, under}
 use Rattle.std.proofs.lemmas.Nat.{shr-shr, shr_le, shr_below, pow_below, mod_below}
-use Rattle.std.proofs.lemmas.Bool.{cases_lt}
-use Rattle.bit_store.specs.Places.{bit_on}
+use Rattle.std.specs.Bool.{then_some}
+use Rattle.std.proofs.lemmas.Bool.{cases_lt, ltb-true, ltb-false}
+use Rattle.bit_store.specs.Places.{LeastBelow, bit_on}
+use Rattle.bit_store.proofs.Kept.{bit_cleared}
 
 digit_next : (n j : ℕ) → n / 2 ^ suc j % 2 ≡ n / 2 / 2 ^ j % 2
 digit_next n j = ap (λ (x : ℕ). x % 2) (sym (shr-shr n 1 j ∙ ap (λ (x : ℕ). n / 2 ^ x) (one-add j)))
@@ -82,3 +84,42 @@ module _ (ws : List ℕ) (b : ℕ) (fits : get_or ws (b / 32) 0 < 2 ^ 32) where
         let e : b + (t - b) ≡ t = omega arith in
         subst (λ (x : ℕ). bit_on ws x ≡ false) e
         (bit_above ws b (t - b) (let n = found_near in omega arith) ∙ ap (λ (x : ℕ). eqb x 1) (lowest.below (t - b) (omega arith)))
+
+-- f is the first place from b on whose bit is on
+pub record First (ws : List ℕ) (b f : ℕ) : Type 0 where
+  pub from : b ≤ f
+  pub on : bit_on ws f ≡ true
+  pub before : (t : ℕ) → b ≤ t → t < f → bit_on ws t ≡ false
+
+-- it is what a search that ends at `end` answers, if it comes before
+pub least_first : (ws : List ℕ) (b f end : ℕ) (w : Bool) (o : Option ℕ) → First ws b f → w ≡ ltb f end → o ≡ then_some w f → LeastBelow (bit_on ws) b end o
+least_first ws b f end true o h e q = rw q (h.from, ltb-true f end (sym e), h.on, h.before)
+least_first ws b f end false o h e q = let l : end ≤ f = ltb-false f end (sym e) in rw q (λ t m k. h.before t m (omega arith))
+
+module _ (ws : List ℕ) (b : ℕ) (fits : get_or ws (b / 32) 0 < 2 ^ 32) where
+  pub first_near : 0 < get_or ws (b / 32) 0 / 2 ^ (b % 32) → First ws b (b + count_trailing_zeros 32 (get_or ws (b / 32) 0 / 2 ^ (b % 32)))
+  first_near some = record { from = omega arith; on = found_here ws b fits some _ refl; before = found_below ws b fits some _ refl }
+
+  module _ (clear : get_or ws (b / 32) 0 / 2 ^ (b % 32) ≡ 0) where
+    -- nothing in its word, nor in the words up to n
+    pub clear_before : (n : ℕ) → ((k : ℕ) → b / 32 + 1 ≤ k → k < n → get_or ws k 0 ≡ 0) → (t : ℕ) → b ≤ t → t < n * 32 → bit_on ws t ≡ false
+    clear_before n zeros t h l =
+        ⊎_elim
+        (λ k. word_clear ws b fits clear t h k)
+        (λ k. bit_cleared ws t (zeros (t / 32) (omega arith) (omega arith)))
+        (cases_lt t ((b / 32 + 1) * 32))
+
+    pub first_far : (n : ℕ) → b / 32 + 1 ≤ n → get_or ws n 0 < 2 ^ 32 → 0 < get_or ws n 0 → ((k : ℕ) → b / 32 + 1 ≤ k → k < n → get_or ws k 0 ≡ 0) → First ws b (n * 32 + count_trailing_zeros 32 (get_or ws n 0))
+    first_far n past small some zeros =
+        let d : n * 32 / 32 ≡ n = omega arith in
+        let m : n * 32 % 32 ≡ 0 = omega arith in
+        let word : get_or ws (n * 32 / 32) 0 / 2 ^ (n * 32 % 32) ≡ get_or ws n 0 = rw (d, m) (div-one (get_or ws n 0)) in
+        let near : First ws (n * 32) (n * 32 + count_trailing_zeros 32 (get_or ws n 0)) = subst (λ v. First ws (n * 32) (n * 32 + count_trailing_zeros 32 v)) word (first_near' (rw d small) (rw word some)) in
+        record {
+          from = omega arith;
+          on = near.on;
+          before = λ t h l. ⊎_elim (λ k. clear_before n zeros t h k) (λ k. near.before t k l) (cases_lt t (n * 32));
+        }
+      where
+        first_near' : get_or ws (n * 32 / 32) 0 < 2 ^ 32 → 0 < get_or ws (n * 32 / 32) 0 / 2 ^ (n * 32 % 32) → First ws (n * 32) (n * 32 + count_trailing_zeros 32 (get_or ws (n * 32 / 32) 0 / 2 ^ (n * 32 % 32)))
+        first_near' f s = record { from = omega arith; on = found_here ws (n * 32) f s _ refl; before = found_below ws (n * 32) f s _ refl }

@@ -1,6 +1,6 @@
-ghost use Rattle.std.specs.Prelude.{◌≡◌, ◌≤◌, true, length};
+ghost use Rattle.std.specs.Prelude.{◌≡◌, ◌<◌, ◌≤◌, true, length};
 ghost use Rattle.links.specs.Sets.{all_inside, rising};
-ghost use Rattle.bit_store.specs.Places.{Placed, links_in, words_for};
+ghost use Rattle.bit_store.specs.Places.{Placed, bit_on, links_in, places, words_for};
 
 use links::{Link, Sizes};
 
@@ -32,5 +32,12 @@ impl<'a> BitStore<'a> {
         let row = (link.source - 64) * 16 + link.label;
         let nodes = 64 + self.sizes.things();
         Some(row as usize * nodes as usize + link.target as usize)
+    }
+    // Whether the bit at a place is on.
+    fn is_bit_on(&self, place: usize) -> bool
+        requires { place < places self.now.sizes.things }
+        ensures { result ≡ bit_on self.now.words.now place }
+    {
+        (self.words[place / 32] >> (place % 32)) % 2 == 1
     }
 }

@@ -1,2 +1,4 @@
 mod Inserting
 mod Next
+mod Sources
+mod Touching

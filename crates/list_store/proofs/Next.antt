@@ -1,5 +1,7 @@
 -- The next target, by what stands at the place where it would.
-use Rattle.std.proofs.Common.{◌≡◌, ℕ, ◌<◌, ◌≤◌, true, false, ◌&&◌, eqb, List, length, get_or, Some, None, sym, ap, ◌∙◌, subst, arith}
+use Rattle.std.proofs.Common.{◌≡◌, ℕ, ◌<◌, ◌≤◌, Bool, true, false, ◌&&◌, eqb, List, length, get_or, Some, None, Option, sym, ap, ◌∙◌, subst, arith}
+use Rattle.std.specs.Bool.{then_some}
+use Rattle.std.proofs.lemmas.Bool.{and_parts, eqb-true}
 use Rattle.std.proofs.lemmas.Bool.Decides.{nat_tests}
 use Rattle.ordered.specs.Order.{rank}
 use Rattle.ordered.proofs.Members.{none_past, none_between, rank_past, has_get_d}
@@ -41,12 +43,16 @@ module _ (ls : List Link) (r : rising ls ≡ true) (s b from at : ℕ) (is : at 
     there : member e ls ≡ true
     there = subst (λ v. member v ls ≡ true) (sym (g e)) (has_get_d link_before link_order e ls at l)
 
-    pub next_here : e.source ≡ s → e.label ≡ b → Least (λ t. member (link_of s b t) ls) from (Some e.target)
+    next_here : e.source ≡ s → e.label ≡ b → Least (λ t. member (link_of s b t) ls) from (Some e.target)
     next_here p q = (
       target_least s b from e p q past,
       subst (λ v. member (link_of s v e.target) ls ≡ true) q (subst (λ v. member (link_of v e.label e.target) ls ≡ true) p there),
       λ n h k. nothing n h (target_before s b n e p q k),
     )
 
-    pub next_other : (eqb e.source s && eqb e.label b) ≡ false → Least (λ t. member (link_of s b t) ls) from None
+    next_other : (eqb e.source s && eqb e.label b) ≡ false → Least (λ t. member (link_of s b t) ls) from None
     next_other o n h = nothing n h (other_before s b from n e o past)
+
+    pub next_record : (w : Bool) (o : Option ℕ) → (eqb e.source s && eqb e.label b) ≡ w → o ≡ then_some w e.target → Least (λ t. member (link_of s b t) ls) from o
+    next_record true o h q = let p = and_parts (eqb e.source s) (eqb e.label b) h in rw q (next_here (eqb-true e.source s p.0) (eqb-true e.label b p.1))
+    next_record false o h q = rw q (next_other h)

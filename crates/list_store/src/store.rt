@@ -1,6 +1,6 @@
 ghost use Rattle.std.specs.Prelude.{◌≡◌, true};
 ghost use Rattle.ordered.specs.Items.{items, capacity};
-ghost use Rattle.links.specs.Sets.{all_inside, rising};
+ghost use Rattle.links.specs.Sets.{all_inside};
 
 use links::{Link, Sizes};
 use ordered::OrderedList;
@@ -15,6 +15,5 @@ pub struct ListStore<'a> {
     list: OrderedList<'a, Link>,
     sizes: Sizes,
     ghost roomy: { capacity list ≡ sizes.limit },
-    ghost rises: { rising (items list) ≡ true },
     ghost within: { all_inside sizes.things (items list) ≡ true },
 }

@@ -1,7 +1,6 @@
 -- What the strict order of a test gives of a list in that order.
-use Rattle.std.proofs.Common.{◌≡◌, ℕ, zero, suc, ◌+◌, ◌<◌, ◌≤◌, Bool, true, false, cond, not, ◌||◌, List, [], ◌∷◌, ◌++◌, length, get_or, take, drop, Some, None, Option, sym, refl, ap, ◌∙◌, subst, ⊎_elim, arith, MatchOption}
-use Rattle.std.proofs.lemmas.List.{get_or_read}
-use Rattle.std.proofs.lemmas.Bool.{cases_order, cond_both, or_parts, or_from, and_parts, and_from, or_cases, or_left, or_right, both_ways, cases_Bool, not-true, not_from_true, not_from_false, cond-true, cond-false, and_left, and_right}
+use Rattle.std.proofs.Common.{◌≡◌, ℕ, zero, suc, ◌<◌, ◌≤◌, Bool, true, false, cond, not, ◌||◌, List, [], ◌∷◌, ◌++◌, length, get_or, take, drop, Some, None, Option, sym, refl, ap, ◌∙◌, subst, ⊎_elim, arith, MatchOption}
+use Rattle.std.proofs.lemmas.Bool.{cond_both, or_parts, or_from, and_parts, and_from, or_cases, or_left, or_right, both_ways, cases_Bool, not-true, not_from_true, not_from_false, cond-true, cond-false, and_left, and_right}
 use Rattle.ordered.specs.Order.{KeyOrder, Exact}
 use Rattle.ordered.specs.Order.{leads, ascending, same, has, lookup, placed, without, rank}
 
@@ -71,17 +70,6 @@ module _ {K : Type 0} (b : K → K → Bool) (o : KeyOrder b) where
     where
       held : (z y : K) (ys : List K) → has b z (y ∷ ys) ≡ true → b y z ≡ true → has b z ys ≡ true
       held z y ys m l = ⊎_elim (λ s. absurd (both_ways (same b z y) (apart y z l) s)) (λ t. t) (or_cases (same b z y) (has b z ys) m)
-
-  -- what comes before x has all below it come before x: e is what is read at m
-  pub below_low : (xs : List K) (x e : K) (m : ℕ) → ascending b xs ≡ true → m < length xs → e ≡ get_or xs m e → b e x ≡ true → (k : ℕ) (d : K) → k < m + 1 → b (get_or xs k d) x ≡ true
-  below_low xs x e m h l r t k d below =
-      let at : b (get_or xs m d) x ≡ true = subst (λ v. b v x ≡ true) (get_or_read xs m e l r d) t in
-      ⊎_elim (λ q. subst (λ i. b (get_or xs i d) x ≡ true) (sym q) at) (⊎_elim (λ q. o.transitive (get_or xs k d) (get_or xs m d) x (ascending_at b xs k m d h q l) at) (λ q. absurd (omega arith))) (cases_order k m)
-
-  pub above_high : (xs : List K) (x e : K) (m : ℕ) → ascending b xs ≡ true → m < length xs → e ≡ get_or xs m e → b e x ≡ false → (k : ℕ) (d : K) → m ≤ k → k < length xs → b (get_or xs k d) x ≡ false
-  above_high xs x e m h l r t k d above lk =
-      let at : b (get_or xs m d) x ≡ false = subst (λ v. b v x ≡ false) (get_or_read xs m e l r d) t in
-      ⊎_elim (λ q. subst (λ i. b (get_or xs i d) x ≡ false) (sym q) at) (⊎_elim (λ q. absurd (omega arith)) (λ q. ⊎_elim (λ u. absurd (both_ways (b (get_or xs m d) x) at (o.transitive (get_or xs m d) (get_or xs k d) x (ascending_at b xs m k d h q lk) u))) (λ u. u) (cases_Bool (b (get_or xs k d) x)))) (cases_order k m)
 
 -- the list with x in its place, by that place
 pub placed_at : {K : Type 0} (b : K → K → Bool) (x : K) (xs : List K) → placed b x xs ≡ take (rank b x xs) xs ++ x ∷ drop (rank b x xs) xs

@@ -1,3 +1,4 @@
 pub mod Laws
 pub mod Members
 mod Moves
+mod Searching

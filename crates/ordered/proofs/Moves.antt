@@ -1,11 +1,10 @@
 -- What a turn of a part of a slice leaves at its front.
-use Rattle.std.proofs.Common.{◌≡◌, ℕ, suc, ◌+◌, ◌-◌, ◌<◌, ◌≤◌, min, Bool, true, List, [], ◌∷◌, ◌++◌, length, take, drop, set, sym, ap, ◌∙◌, subst, ⊎_elim, append_assoc, add-one, arith}
+use Rattle.std.proofs.Common.{◌≡◌, ℕ, suc, ◌+◌, ◌-◌, ◌<◌, ◌≤◌, Bool, true, List, [], ◌∷◌, ◌++◌, length, take, drop, set, sym, ap, ◌∙◌, subst, append_assoc, add-one, arith}
 use borrow.Rule.Slice.PartMut.{put_mid, post_of}
 use Rattle.ordered.specs.Order.{KeyOrder}
 use Rattle.ordered.specs.Order.{ascending, rank, has, placed, without}
 use Rattle.ordered.proofs.Laws.{placed_at, without_at}
-use Rattle.std.proofs.lemmas.Bool.{cases_lt}
-use Rattle.std.proofs.lemmas.List.{take_all, take-take, length-take-le, length-drop, length-append, length-set, length_push, take_at, drop_at, take_more_set, drop-append-le, take-set-le, drop-drop}
+use Rattle.std.proofs.lemmas.List.{take-take, length-take-le, length-drop, length-append, length-set, length_push, take_at, drop_at, take_more_set, drop-append-le, take-set-le, drop-drop}
 use Rattle.std.proofs.lemmas.Slice.{between_is, take-put_mid}
 
 -- x written at len, and the part from `at` to there turned right by one
@@ -44,26 +43,19 @@ turned_out {X} s at len r l m h =
     ap (λ v. take at s ++ (v ++ post_of at (len - at) s)) (h ∙ ap (λ v. v ++ take 1 p) e) ∙ simp append_assoc in
     ap (take (len - 1)) split ∙ take_at (take at s ++ q) rest (len - 1) (length-append (take at s) q ∙ omega (arith, length-take-le at s (omega arith)))
 
--- a front that is cut short by the list's end
-pub front_min : {X : Type 0} (n r : ℕ) (xs : List X) → r ≡ min n (length xs) → take r xs ≡ take n xs
-front_min n r xs h =
-    ⊎_elim (λ l. let e : r ≡ n = omega arith in ap (λ v. take v xs) e) (λ l. take_all r xs (omega arith) ∙ sym (take_all n xs (omega arith))) (cases_lt n (length xs))
-
 -- a record put in at its rank is the list with that record in its place
-pub inserted_is : {K : Type 0} (b : K → K → Bool) (x : K) (s t xs : List K) (at len : ℕ) → at ≤ len → take len s ≡ xs → at ≡ rank b x xs → take (len + 1) t ≡ take at s ++ x ∷ drop at (take len s) → take (len + 1) t ≡ placed b x xs
-inserted_is b x s t xs at len l f q e =
+pub inserted_is : {K : Type 0} (b : K → K → Bool) (x : K) (s t : List K) (at len : ℕ) → at ≤ len → at ≡ rank b x (take len s) → take (len + 1) t ≡ take at s ++ x ∷ drop at (take len s) → take (len + 1) t ≡ placed b x (take len s)
+inserted_is b x s t at len l q e =
     e
     ∙ ap (λ v. v ++ x ∷ drop at (take len s)) (sym (take-take at len s l))
-    ∙ ap (λ v. take at v ++ x ∷ drop at v) f
-    ∙ ap (λ v. take v xs ++ x ∷ drop v xs) q
-    ∙ sym (placed_at b x xs)
+    ∙ ap (λ v. take v (take len s) ++ x ∷ drop v (take len s)) q
+    ∙ sym (placed_at b x (take len s))
 
 -- and taken out at its rank, where it is there, the list without it
-pub removed_is : {K : Type 0} (b : K → K → Bool) (o : KeyOrder b) (x : K) (s t xs : List K) (at len : ℕ) → at < len → take len s ≡ xs → at ≡ rank b x xs → ascending b xs ≡ true → has b x xs ≡ true → take (len - 1) t ≡ take at s ++ drop (at + 1) (take len s) → take (len - 1) t ≡ without b x xs
-removed_is b o x s t xs at len l f q h m e =
+pub removed_is : {K : Type 0} (b : K → K → Bool) (o : KeyOrder b) (x : K) (s t : List K) (at len : ℕ) → at < len → at ≡ rank b x (take len s) → ascending b (take len s) ≡ true → has b x (take len s) ≡ true → take (len - 1) t ≡ take at s ++ drop (at + 1) (take len s) → take (len - 1) t ≡ without b x (take len s)
+removed_is b o x s t at len l q h m e =
     e
     ∙ ap (λ v. v ++ drop (at + 1) (take len s)) (sym (take-take at len s (omega arith)))
-    ∙ ap (λ v. take at v ++ drop (at + 1) v) f
-    ∙ ap (λ v. take at xs ++ drop v xs) (add-one at)
-    ∙ ap (λ v. take v xs ++ drop (suc v) xs) q
-    ∙ sym (without_at b o x xs h m)
+    ∙ ap (λ v. take at (take len s) ++ drop v (take len s)) (add-one at)
+    ∙ ap (λ v. take v (take len s) ++ drop (suc v) (take len s)) q
+    ∙ sym (without_at b o x (take len s) h m)

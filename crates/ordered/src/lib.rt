@@ -5,6 +5,6 @@ mod keyed;
 mod list;
 mod refusal;
 
-pub use keyed::Keyed;
-pub use list::{OrderedList, lists_are_determined};
+pub use keyed::{Keyed, lists_are_determined};
+pub use list::OrderedList;
 pub use refusal::InsertRefusal;

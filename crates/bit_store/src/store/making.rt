@@ -17,6 +17,7 @@ impl<'a> BitStore<'a> {
     }
 
     // Asks for a store of these sizes over memory of so many words.
+    // Stays: beside the call of `Sizes::ask` the two stores share a comparison, and each compares with its own length.
     pub fn ask(things: u32, limit: usize, words: usize) -> Result<Sizes, MakeRefusal>
         ensures { Asked things limit (InRange things limit × (words_for things ≤ words)) result }
     {
@@ -34,9 +35,7 @@ impl<'a> BitStore<'a> {
         ensures things { result.sizes.things ≡ sizes.things }
         ensures limit { result.sizes.limit ≡ sizes.limit }
     {
-        for i in 0..Self::words_needed(sizes) {
-            words[i] = 0;
-        }
+        words[..Self::words_needed(sizes)].fill(0);
         BitStore {
             words,
             sizes,

@@ -9,6 +9,7 @@ use ordered::OrderedList;
 
 impl<'a> ListStore<'a> {
     // Asks for a store of these sizes over memory of so many records.
+    // Stays: beside the call of `Sizes::ask` the two stores share a comparison, and each compares with its own length.
     pub fn ask(things: u32, limit: usize, slots: usize) -> Result<Sizes, MakeRefusal>
         ensures { Asked things limit (InRange things limit × (limit ≤ slots)) result }
     {
@@ -26,7 +27,7 @@ impl<'a> ListStore<'a> {
         ensures things { result.sizes.things ≡ sizes.things }
         ensures limit { result.sizes.limit ≡ sizes.limit }
     {
-        let slots = &mut memory[0..sizes.limit()];
+        let slots = &mut memory[..sizes.limit()];
         ListStore {
             list: OrderedList::new(slots),
             sizes,

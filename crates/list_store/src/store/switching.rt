@@ -14,9 +14,7 @@ impl<'a> Store for ListStore<'a> {
         if !self.sizes.contain(link) {
             return Err(SwitchRefusal::NoSuchLink);
         }
-        match self.list.remove(&link) {
-            Some(_) => Ok(()),
-            None => Err(SwitchRefusal::NotOn),
-        }
+        self.list.remove(&link).ok_or(SwitchRefusal::NotOn)?;
+        Ok(())
     }
 }

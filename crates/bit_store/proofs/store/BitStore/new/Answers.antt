@@ -1,19 +1,22 @@
-use Rattle.std.proofs.Common.{◌<◌, ◌≢◌, length, sym, refl, ap, arith, get_or-set_other, get_or-set_same, below_more}
+use Rattle.std.proofs.Common.{◌≤◌, ◌++◌, length, drop, replicate, sym, ap, ◌∙◌, zero-le, arith}
+use Rattle.std.proofs.lemmas.List.{length-take-le, length-append, length-drop}
+use Rattle.bit_store.specs.Places.{words_for}
 use Rattle.bit_store.proofs.Kept.{links_cleared, rising_links, inside_links}
+use Rattle.bit_store.proofs.Placing.{words_hold}
 use Rattle.bit_store.proofs.store.BitStore.new.Goals as goal
-
-pub loop-i-preserved : goal.loop-i-preserved
-loop-i-preserved c =
-    below_more _ _
-    (λ k h. let ne : k ≢ c.loop-i.i = omega arith in rw get_or-set_other (c.loop-i.invariant k h))
-    (let lt : c.loop-i.i < length c.loop-i.words = omega arith in rw get_or-set_same)
 
 pub invariant_of-result : goal.invariant_of-result
 invariant_of-result c =
     let t = c.args.sizes.things in
-    let words = c.loop-i.words in
-    let e = links_cleared words t c.loop-i.i (omega arith) c.loop-i.invariant in
-    record { long = omega arith; counted = ap length (sym e); few = omega arith; rises = rising_links words t; within = inside_links words t }
+    let n = c.words_needed.result in
+    let l = length-take-le n c.args.words.now (omega (arith, c.requires, c.words_needed.ensures.is)) in
+    let none = links_cleared c.fill.new.self (drop n c.args.words.now) t n (c.fill.ensures.after (λ y e. e) ∙ ap (λ v. replicate v 0) l) (omega (arith, words_hold t, c.words_needed.ensures.is)) in
+    let long : words_for t ≤ length (c.fill.new.self ++ drop n c.args.words.now) = omega (arith, c.requires, c.words_needed.ensures.is, c.fill.ensures.len, l, length-drop n c.args.words.now, length-append c.fill.new.self (drop n c.args.words.now)) in
+    record { long = long; counted = ap length (sym none); few = zero-le; rises = rising_links _ t; within = inside_links _ t }
 
-pub returns : goal.returns
-returns c = record { empty = links_cleared c.loop-i.words c.args.sizes.things c.loop-i.i (omega arith) c.loop-i.invariant; things = refl; limit = refl }
+pub returns-clause-empty : goal.returns-clause-empty
+returns-clause-empty c =
+    let t = c.args.sizes.things in
+    let n = c.words_needed.result in
+    let l = length-take-le n c.args.words.now (omega (arith, c.requires, c.words_needed.ensures.is)) in
+    links_cleared c.fill.new.self (drop n c.args.words.now) t n (c.fill.ensures.after (λ y e. e) ∙ ap (λ v. replicate v 0) l) (omega (arith, words_hold t, c.words_needed.ensures.is))

@@ -1,19 +1,26 @@
-use Rattle.std.proofs.Common.{◌≡◌, ◌+◌, true, take, ap, ◌∙◌, arith}
+use Rattle.std.proofs.Common.{◌+◌, ◌≤◌, length, ap, ◌∙◌, arith}
+use Rattle.std.proofs.lemmas.List.{length-take-le}
 use Rattle.ordered.specs.Items.{items}
-use Rattle.ordered.specs.Order.{ascending, placed}
+use Rattle.ordered.specs.Order.{ascending}
 use Rattle.ordered.proofs.Laws.{ascending_placed}
 use Rattle.ordered.proofs.Moves.{inserted_is}
 use Rattle.ordered.proofs.list.OrderedList.insert.Goals as goal
 
-pub returns-else-len-self : goal.returns-else-len-self
-returns-else-len-self g c =
-    let a = c.in-Err.ensures in
+pub invariant_of-self : goal.invariant_of-self
+invariant_of-self g c =
+    let s = c.args.self.now in
     let b = g.R.Keyed.before in
-    let xs = items c.args.self.now in
-    let done : ascending b xs ≡ true → take (c.len-len.result + 1) c.insert_at.new.records ≡ placed b c.args.x xs =
-    λ h. inserted_is b c.args.x c.args.self.now.records.now c.insert_at.new.records xs c.in-Err.at c.len-len.result (omega arith) c.len-len.ensures.front (a.sought h).1 c.insert_at.ensures in
+    let k = c.in-Err.ensures in
+    let n = length-take-le s.len s.records.now s.fits in
+    let room : s.len + 1 ≤ length c.insert_at.new.records = omega (arith, n, s.fits, c.insert_at.auto.records) in
     record {
-      capacity = c.insert_at.auto.records;
-      inserted = λ h. ((a.sought h).0, omega arith, done h);
-      rises = λ h. ap (ascending b) (done h) ∙ ascending_placed b g.met.R.Keyed.order c.args.x xs h (a.sought h).0;
+      fits = room;
+      rises = ap (ascending b) (inserted_is b c.args.x s.records.now c.insert_at.new.records c.in-Err.at s.len (omega (arith, n, k.bound)) k.sought.1 c.insert_at.ensures) ∙ ascending_placed b g.met.R.Keyed.order c.args.x (items s) s.rises k.sought.0;
     }
+
+pub returns-clause-inserted : goal.returns-clause-inserted
+returns-clause-inserted g c =
+    let s = c.args.self.now in
+    let k = c.in-Err.ensures in
+    let n = length-take-le s.len s.records.now s.fits in
+    (k.sought.0, omega (arith, n, s.fits), inserted_is g.R.Keyed.before c.args.x s.records.now c.insert_at.new.records c.in-Err.at s.len (omega (arith, n, k.bound)) k.sought.1 c.insert_at.ensures)

@@ -1,38 +1,31 @@
-use Rattle.std.proofs.Common.{ℕ, ◌+◌, ◌*◌, sym, ap, ◌∙◌, arith}
+use Rattle.std.proofs.Common.{◌≡◌, ◌+◌, ◌-◌, ◌*◌, true, false, rules, tests, arith}
+use Rattle.std.proofs.lemmas.Iterator.{first_from_Range, serves_from_Range}
+use Rattle.bit_store.specs.Places.{bit_on}
 use Rattle.bit_store.proofs.Runs.{places_few}
-use Rattle.bit_store.proofs.Columns.{column_none, column_outside, column_below, column_found, column_more, column_end}
+use Rattle.bit_store.proofs.Columns.{column_outside, column_below, next_column}
 use Rattle.bit_store.proofs.store.questions.BitStoreLinks.next_source.Goals as goal
 
-pub returns-in_default : goal.returns-in_default
-returns-in_default c = column_outside c.args.self.now.words.now c.args.self.now.sizes.things _ _ _ _ c.max-start.ensures (sym c.in_default.ensures)
-
-pub loop-source-init : goal.loop-source-init
-loop-source-init c = (c.in-Some.ensures.1, column_none c.args.self.now.words.now c.args.self.now.sizes.things _ _ _ _ c.max-start.ensures)
-
-pub is_bit_on-requires : goal.is_bit_on-requires
-is_bit_on-requires c =
+pub returns-in_err-first : goal.returns-in_err-first
+returns-in_err-first c =
     let s = c.args.self.now in
-    let p = column_below s.words.now s.sizes.things _ _ _ _ c.max-start.ensures (sym c.in-Some.ensures.0) _ _ c.loop-source.auto.source c.loop-source.invariant.0 c.loop-source.invariant.1 (omega arith) in
-    omega (arith, s.long)
+    rw c.from_residual.ensures (column_outside s.words.now s.sizes.things c.args.label c.args.target c.args.from c.max-start.result c.max-start.ensures c.in_err-first.ensures)
 
-pub returns-then-is_bit_on : goal.returns-then-is_bit_on
-returns-then-is_bit_on c =
+pub find-requires-clause-callable : goal.find-requires-clause-callable
+find-requires-clause-callable c =
     let s = c.args.self.now in
-    column_found s.words.now s.sizes.things _ _ _ _ c.max-start.ensures (sym c.in-Some.ensures.0) _ _ c.loop-source.auto.source c.loop-source.invariant.0 c.loop-source.invariant.1 (omega arith) (sym c.if-is_bit_on.ensures)
-
-pub overflow_add-place : goal.overflow_add-place
-overflow_add-place c =
-    let s = c.args.self.now in
-    let p = column_below s.words.now s.sizes.things _ _ _ _ c.max-start.ensures (sym c.in-Some.ensures.0) _ _ c.loop-source.auto.source c.loop-source.invariant.0 c.loop-source.invariant.1 (omega arith) in
-    omega (arith, places_few s.sizes.things s.sizes.ranges.1, s.sizes.ranges)
-
-pub loop-source-preserved : goal.loop-source-preserved
-loop-source-preserved c =
-    let s = c.args.self.now in
-    let more = column_more s.words.now s.sizes.things _ _ _ _ c.max-start.ensures (sym c.in-Some.ensures.0) _ _ c.loop-source.auto.source c.loop-source.invariant.0 c.loop-source.invariant.1 (omega arith) (sym c.if-is_bit_on.ensures) in
-    (ap (λ (v : ℕ). c.loop-source.place + 16 * (64 + v)) c.things-end.ensures.is ∙ more.0, more.1)
+    let placed = c.in_ok-first.ensures in
+    let few = places_few s.sizes.things s.sizes.ranges.1 in
+    serves_from_Range (λ n q k. search (rules, tests)) (λ n low high y e.
+    let h = column_below s.words.now s.sizes.things c.args.label c.args.target c.args.from c.max-start.result c.max-start.ensures placed.0 c.in_ok-first.first placed.1 c.things-end.result y.now c.things-end.ensures.is (omega (arith, e, low)) (omega (arith, e, high)) in
+    search (rules, h, few))
 
 pub returns : goal.returns
 returns c =
     let s = c.args.self.now in
-    column_end s.words.now s.sizes.things _ _ _ _ c.max-start.ensures (sym c.in-Some.ensures.0) _ _ c.loop-source.auto.source c.loop-source.invariant.0 c.loop-source.invariant.1 (omega arith)
+    let ws = s.words.now in
+    let placed = c.in_ok-first.ensures in
+    let first = c.in_ok-first.first in
+    let start = c.max-start.result in
+    let n = c.things-end.result in
+    let h = first_from_Range _ _ _ c.find.result (λ k. bit_on ws (first + (k - start) * (16 * (64 + n))) ≡ true) (λ k. bit_on ws (first + (k - start) * (16 * (64 + n))) ≡ false) c.find.ensures.ran (λ k q r. search (rules, tests)) (λ k q r. search (rules, tests)) in
+    next_column ws s.sizes.things c.args.label c.args.target c.args.from start c.max-start.ensures placed.0 first placed.1 n c.find.result c.things-end.ensures.is h

@@ -1,19 +1,15 @@
-use Rattle.std.proofs.Common.{⊎_elim, arith}
-use Rattle.std.proofs.lemmas.Bool.{cases_lt}
+use Rattle.std.proofs.Common.{◌≡◌, true, false, rules, tests}
+use Rattle.std.proofs.lemmas.Iterator.{first_from_Range}
 use Rattle.ordered.specs.Items.{items}
-use Rattle.links.specs.Sets.{link_of}
-use Rattle.links.proofs.Inside.{member_outside, outside_marks, outside_source}
+use Rattle.links.specs.Sets.{link_of, member}
+use Rattle.list_store.proofs.Sources.{least_source}
 use Rattle.list_store.proofs.store.questions.ListStoreLinks.next_source.Goals as goal
 
-pub loop-source-init : goal.loop-source-init
-loop-source-init c n h l =
-    let s = c.args.self.now in
-    member_outside s.sizes.things (link_of n c.args.label c.args.target) (items s.list) (outside_marks s.sizes.things n c.args.label c.args.target (omega arith)) s.within
-
 pub returns : goal.returns
-returns c n h =
+returns c =
     let s = c.args.self.now in
-    ⊎_elim
-    (λ l. c.loop-source.invariant n h l)
-    (λ l. member_outside s.sizes.things (link_of n c.args.label c.args.target) (items s.list) (outside_source s.sizes.things n c.args.label c.args.target (omega arith)) s.within)
-    (cases_lt n c.loop-source.source)
+    let b = c.args.label in
+    let x = c.args.target in
+    let ls = items s.list in
+    let first = first_from_Range _ _ _ c.find.result (λ n. member (link_of n b x) ls ≡ true) (λ n. member (link_of n b x) ls ≡ false) c.find.ensures.ran (λ n q k. search (rules, tests)) (λ n q k. search (rules, tests)) in
+    least_source ls s.sizes.things c.things.result b x c.args.from c.max.result c.things.ensures.is c.max.ensures s.within c.find.result first

@@ -1,28 +1,24 @@
-use Rattle.std.proofs.Common.{◌≡◌, false, ◌&&◌, eqb, ⊎_elim, arith}
-use Rattle.std.proofs.lemmas.Bool.{and_left, and_right, ne_eqb}
+use Rattle.std.proofs.Common.{◌≡◌, ◌&&◌, eqb, arith}
+use Rattle.std.proofs.lemmas.Bool.Decides.{nat_tests}
 use Rattle.ordered.specs.Items.{items}
-use Rattle.list_store.proofs.Next.{next_end, next_here, next_other}
+use Rattle.list_store.proofs.Next.{next_end, next_record}
 use Rattle.list_store.proofs.store.questions.ListStoreLinks.next_target.Goals as goal
+use Rattle.list_store.proofs.store.questions.ListStoreLinks.next_target.Goals.{then-next-source, else-next-source}
 
-pub returns-in_default : goal.returns-in_default
-returns-in_default c =
+pub returns-in_err-next : goal.returns-in_err-next
+returns-in_err-next c =
     let s = c.args.self.now in
-    next_end (items s.list) s.rises c.args.source c.args.label c.args.from c.lower_bound.result (c.lower_bound.ensures.ranked s.rises) (let h = c.in_default.ensures in omega arith)
+    let past = rw c.in_err-next.was at c.get.ensures in
+    rw c.from_residual.ensures (next_end (items s.list) s.list.rises c.args.source c.args.label c.args.from c.lower_bound.result c.lower_bound.ensures.ranked (omega (arith, past, c.lower_bound.ensures.bound)))
 
-pub returns-then-next-label : goal.returns-then-next-label
-returns-then-next-label c =
+pub returns : goal.returns
+returns c =
     let s = c.args.self.now in
-    let found = c.in-Some.ensures in
-    next_here (items s.list) s.rises c.args.source c.args.label c.args.from c.lower_bound.result (c.lower_bound.ensures.ranked s.rises) c.in-Some.next found.0 found.1 c.if-next-source.true c.if-next-label.true
-
-pub returns-else-next-source : goal.returns-else-next-source
-returns-else-next-source c =
-    let s = c.args.self.now in
-    let found = c.in-Some.ensures in
-    let next = c.in-Some.next in
-    let other : (eqb next.source c.args.source && eqb next.label c.args.label) ≡ false =
-    ⊎_elim
-    (λ w. and_right (eqb next.source c.args.source) (eqb next.label c.args.label) (ne_eqb next.label c.args.label w.1))
-    (λ w. and_left (eqb next.source c.args.source) (eqb next.label c.args.label) (ne_eqb next.source c.args.source w))
-    c.else-next-source.either in
-    next_other (items s.list) s.rises c.args.source c.args.label c.args.from c.lower_bound.result (c.lower_bound.ensures.ranked s.rises) next found.0 found.1 other
+    let next = c.in_ok-next.next in
+    let found = c.in_ok-next.ensures in
+    let same : (eqb next.source c.args.source && eqb next.label c.args.label) ≡ c.if-next-source.then_some =
+    elim c.if-next-source.branch [
+      | then-next-source w ↦ grind (arith, nat_tests, w.if-next-source.true, w.then_some-is)
+      | else-next-source w ↦ grind (arith, nat_tests, w.if-next-source.false, w.then_some-is)
+    ] in
+    next_record (items s.list) s.list.rises c.args.source c.args.label c.args.from c.lower_bound.result c.lower_bound.ensures.ranked next found.0 found.1 c.if-next-source.then_some c.then_some.result same c.then_some.ensures

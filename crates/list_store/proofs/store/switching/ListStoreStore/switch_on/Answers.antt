@@ -5,4 +5,8 @@ use Rattle.list_store.proofs.store.switching.ListStoreStore.switch_on.Goals as g
 
 pub invariant_of-self : goal.invariant_of-self
 invariant_of-self c =
-    let s = c.args.self.now in record { roomy = c.insert.ensures.capacity ∙ s.roomy; rises = c.insert.ensures.rises s.rises; within = still_within s.sizes.things (capacity s.list) c.args.link (items s.list) (items c.insert.new.self) c.insert.result (sym c.if-not-contain.ensures) s.within (c.insert.ensures.inserted s.rises) }
+    let s = c.args.self.now in
+    record {
+      roomy = c.insert.ensures.capacity ∙ s.roomy;
+      within = still_within s.sizes.things (capacity s.list) c.args.link (items s.list) (items c.insert.new.self) c.insert.result (sym c.if-not-contain.ensures) s.within c.insert.ensures.inserted;
+    }

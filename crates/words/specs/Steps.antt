@@ -1,5 +1,6 @@
 -- One step of the reading, over numbers.
-use Rattle.std.specs.Prelude.{ℕ, ◌+◌, ◌^◌, ◌<◌, ◌≤◌, Bool, true, false, cond, ◌&&◌, ◌||◌, List, [], ◌∷◌, Ok, Err, Result, ◌==◌, nat_le, nat_lt, slice_index_or}
+use Rattle.std.specs.Prelude.{ℕ, ◌+◌, ◌^◌, ◌<◌, ◌≤◌, Bool, true, false, cond, ◌&&◌, List, [], ◌∷◌, Ok, Err, Result, ◌==◌, nat_le, nat_lt, slice_index_or}
+use Rattle.std.specs.List.{list_any}
 use Rattle.words.specs.declared.items.PatternLink.{PatternLink}
 use Rattle.words.specs.declared.items.Target.{Target}
 use Rattle.words.specs.declared.items.Target.TheVariants.{Variable, Mark}
@@ -226,8 +227,7 @@ next_of s Ends = record { stage = Outside; rules = s.rules + 1; variables = 0; n
 
 -- the number is in the list
 abbrev pub has : ℕ → List ℕ → Bool
-has x [] = false
-has x (y ∷ ys) = y == x || has x ys
+has x ys = list_any (λ y. y == x) ys
 
 -- a word fault is a rule fault
 abbrev pub worded : Result Item WordFault → Result Item RuleFault

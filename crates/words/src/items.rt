@@ -1,21 +1,21 @@
 // One word: its kind in bits 31 to 28, and its fields.
 ghost use Rattle.std.specs.Prelude.{◌≡◌, ◌%◌};
-ghost use Rattle.words.specs.Words.{kind_of, item_of, link_of, share_of};
+ghost use Rattle.words.specs.Words.{kind_number, kind_of, item_of, link_of, share_of};
 
 use crate::faults::WordFault;
 
-// What a word is: the number in bits 31 to 28, in the order of these numbers from 1 on.
+// What a word is, by the number in its bits 31 to 28.
 #[derive(Clone, Copy, Debug, PartialEq, Eq)]
 pub enum Kind {
-    Opens,
-    LinkToVariable,
-    LinkToMark,
-    Bans,
-    Shares,
-    StrikesNeed,
-    StrikesThing,
-    Makes,
-    Ends,
+    Opens = 1,
+    LinkToVariable = 2,
+    LinkToMark = 3,
+    Bans = 4,
+    Shares = 5,
+    StrikesNeed = 6,
+    StrikesThing = 7,
+    Makes = 8,
+    Ends = 9,
 }
 
 impl Kind {
@@ -35,6 +35,12 @@ impl Kind {
             9 => Some(Kind::Ends),
             _ => None,
         }
+    }
+
+    pub fn number(self) -> u32
+        ensures { result ≡ kind_number self }
+    {
+        self as u32
     }
 }
 

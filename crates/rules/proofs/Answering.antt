@@ -6,9 +6,9 @@ use Rattle.rules.specs.declared.faults.SetFault.{SetFault}
 use Rattle.rules.specs.declared.sets.RuleSet.{RuleSet}
 use Rattle.rules.specs.Rules.{Rule, scanned}
 use Rattle.rules.specs.Scan.{counted}
-use Rattle.rules.specs.Marks.{second_fault, unless_fault, settled}
+use Rattle.rules.specs.Marks.{passed, second_fault, unless_fault, settled}
 use Rattle.rules.specs.Reading.{reading_of}
-use Rattle.rules.specs.Sets.{SetHere, ReadAs, passed}
+use Rattle.rules.specs.Sets.{SetHere, ReadAs}
 use Rattle.rules.proofs.Sound.{scanned_encode}
 use Rattle.rules.proofs.Keeping.{scanned_valid}
 use Rattle.rules.proofs.Exactly.{each_exact}

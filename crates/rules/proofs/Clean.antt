@@ -6,6 +6,7 @@ use Rattle.words.specs.declared.items.PatternLink.{PatternLink}
 use Rattle.words.specs.declared.items.Share.{Share}
 use Rattle.words.specs.declared.faults.RuleFault.{RuleFault}
 use Rattle.words.specs.declared.faults.RuleFault.TheVariants.{Unanchored, SharesNothing, SharesTwice, LinksShared, MadeAtStruck}
+use Rattle.rules.specs.declared.faults.PlacedFault.{PlacedFault}
 use Rattle.rules.specs.Rules.{Ban, Making, Rule, rule_words}
 use Rattle.rules.specs.Formed.{FormedRule}
 use Rattle.rules.specs.Anchors.{some, anchored, is_shared, joins_shared, shares_again, touches}
@@ -125,7 +126,7 @@ none_else : {A : Type 0} (x y : Option A) → or_else x y ≡ None → (x ≡ No
 none_else None y h = (refl, h)
 none_else (Some x) y h = let z : ◌≡◌ {A = ℕ} 0 1 = cc in absurd (omega arith)
 
-none_in : (n : ℕ) (m : Option (ℕ × RuleFault)) → in_rule n m ≡ None → m ≡ None
+none_in : (n : ℕ) (m : Option PlacedFault) → in_rule n m ≡ None → m ≡ None
 none_in n None h = refl
 none_in n (Some m) h = let z : ◌≡◌ {A = ℕ} 0 1 = cc in absurd (omega arith)
 

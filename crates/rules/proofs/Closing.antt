@@ -12,17 +12,18 @@ use Rattle.words.specs.declared.items.Target.TheVariants.{Variable, Mark}
 use Rattle.words.specs.declared.faults.RuleFault.{RuleFault}
 use Rattle.words.specs.declared.faults.RuleFault.TheVariants.{MadeAtStruck}
 use Rattle.words.specs.declared.faults.Cause.{Cause}
-use Rattle.words.specs.declared.faults.Cause.TheVariants.{InRule, TooManyWords}
+use Rattle.words.specs.declared.faults.Cause.TheVariants.{TooManyWords}
 use Rattle.words.specs.declared.steps.State.{State}
 use Rattle.words.specs.Words.{word_of, target_kind}
 use Rattle.words.specs.Steps.{next_of}
 use Rattle.words.proofs.Coding.{kind_of, item_kind}
 use Rattle.rules.specs.declared.faults.SetFault.{SetFault}
+use Rattle.rules.specs.declared.faults.PlacedFault.{PlacedFault}
 use Rattle.rules.specs.Rules.{Making, Rule, Partial, outside, in_needs, in_shares, in_links, in_struck_needs, in_struck_things, in_makes, numbers, read_of, fault_at, ended, go_on, run, scanned, encode, rule_words, link_words, bans_words, need_words, thing_words, makes_words}
 use Rattle.rules.specs.Formed.{FormedRule}
 use Rattle.rules.specs.Runs.{within}
 use Rattle.rules.specs.Anchors.{touches}
-use Rattle.rules.specs.Marks.{fault_if, or_else, first_mark, bans_marks, makes_marks, unmarked, rule_marks, in_rule, second_fault, unless_fault, settled}
+use Rattle.rules.specs.Marks.{fault_if, or_else, first_mark, bans_marks, makes_marks, unmarked, rule_marks, fault_in, in_rule, second_fault, unless_fault, settled}
 use Rattle.rules.specs.Reading.{reading_of, ends}
 use Rattle.rules.proofs.Readings.{numbers_grown}
 use Rattle.rules.proofs.Sound.{read_some_item, scanned_encode}
@@ -102,10 +103,10 @@ rule_ends_one r v =
     let d : ends (word_of Ends ∷ []) ≡ 1 = omega arith in
     omega arith
 
-first_bounds : (p : ℕ) (ms : List (Option RuleFault)) (x : ℕ × RuleFault) → first_mark p ms ≡ Some x → (p ≤ x.0) × (x.0 < p + length ms)
+first_bounds : (p : ℕ) (ms : List (Option RuleFault)) (x : PlacedFault) → first_mark p ms ≡ Some x → (p ≤ x.place) × (x.place < p + length ms)
 first_bounds p [] x e = let z : ◌≡◌ {A = ℕ} 0 1 = cc in absurd (omega arith)
 first_bounds p (None ∷ ms) x e = let k = first_bounds (p + 1) ms x e in (omega arith, omega arith)
-first_bounds p (Some f ∷ ms) x e = let q : p ≡ x.0 = cc in (omega arith, omega arith)
+first_bounds p (Some f ∷ ms) x e = let q : p ≡ x.place = cc in (omega arith, omega arith)
 
 unmarked_length : {X : Type 0} (xs : List X) → length (unmarked xs) ≡ length xs
 unmarked_length [] = refl
@@ -153,12 +154,12 @@ inside_rule pre rest r at v lo hi =
     let x : ends (take at (pre ++ (rule_words r ++ rest))) ≡ ends (pre ++ take j (rule_words r ++ rest)) = ap (λ n. ends (take n (pre ++ (rule_words r ++ rest)))) q ∙ ap ends (take-append-add pre (rule_words r ++ rest) j) in
     omega arith
 
-second_step : (r : Rule) (rs : List Rule) (pre : List ℕ) (n at : ℕ) (f : SetFault) (o : Option (ℕ × RuleFault)) → FormedRule r → at ≡ length pre → n ≡ ends pre → first_mark at (rule_marks r) ≡ o → or_else (in_rule n o) (second_fault (n + 1) (at + length (rule_words r)) rs) ≡ Some f → ((before : List ℕ) (m a : ℕ) → a ≡ length before → m ≡ ends before → second_fault m a rs ≡ Some f → f.rule ≡ ends (take f.place (before ++ encode rs))) → f.rule ≡ ends (take f.place (pre ++ (rule_words r ++ encode rs)))
+second_step : (r : Rule) (rs : List Rule) (pre : List ℕ) (n at : ℕ) (f : SetFault) (o : Option PlacedFault) → FormedRule r → at ≡ length pre → n ≡ ends pre → first_mark at (rule_marks r) ≡ o → or_else (in_rule n o) (second_fault (n + 1) (at + length (rule_words r)) rs) ≡ Some f → ((before : List ℕ) (m a : ℕ) → a ≡ length before → m ≡ ends before → second_fault m a rs ≡ Some f → f.rule ≡ ends (take f.place (before ++ encode rs))) → f.rule ≡ ends (take f.place (pre ++ (rule_words r ++ encode rs)))
 second_step r rs pre n at f (Some x) v a e m s k =
     let b = first_bounds at (rule_marks r) x m in
     let l = rule_marks_length r in
-    let g : record { place = x.0; rule = n; cause = InRule x.1 } ≡ f = cc in
-    let i = inside_rule pre (encode rs) r x.0 v (omega arith) (omega arith) in
+    let g : fault_in n x ≡ f = cc in
+    let i = inside_rule pre (encode rs) r x.place v (omega arith) (omega arith) in
     ap (λ z. z.rule) (sym g) ∙ e ∙ sym i ∙ ap (λ z. ends (take z.place (pre ++ (rule_words r ++ encode rs)))) g
 second_step r rs pre n at f None v a e m s k =
     let w = pre ++ rule_words r in

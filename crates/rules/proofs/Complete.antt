@@ -2,11 +2,12 @@
 use Rattle.std.proofs.Common.{◌≡◌, ℕ, ◌+◌, ◌<◌, ◌≤◌, true, false, cond, ◌&&◌, eqb, ltb, leb, List, [], ◌∷◌, ◌++◌, map, length, Some, None, Ok, Option, sym, refl, ap, ◌∙◌, subst, append_assoc, append-nil, arith, length-append}
 use Rattle.std.specs.List.{AllByRecursion}
 use Rattle.std.proofs.lemmas.List.{length_push}
-use Rattle.std.proofs.lemmas.Bool.{and_parts, or_parts, or_from, lt-leb, ltb-true, leb-true, eqb-false, ne_eqb, eq-eqb, and_left}
+use Rattle.std.proofs.lemmas.Bool.{and_parts, or_parts, or_from, lt-leb, ltb-true, leb-true, eqb-false, ne_eqb, eq-eqb, and_left, false≢true}
 use Rattle.words.specs.declared.items.PatternLink.{PatternLink}
 use Rattle.words.specs.declared.items.Target.{Target}
 use Rattle.words.specs.declared.items.Target.TheVariants.{Variable, Mark}
 use Rattle.words.specs.declared.items.Share.{Share}
+use Rattle.words.specs.declared.items.Share.TheVariants.{New, With, Neither}
 use Rattle.words.specs.declared.items.Item.{Item}
 use Rattle.words.specs.declared.items.Item.TheVariants.{Opens, Link, Bans, Shares, StrikesNeed, StrikesThing, Makes, Ends}
 use Rattle.words.specs.declared.stages.Stage.{Stage}
@@ -15,7 +16,6 @@ use Rattle.words.specs.Words.{word_of, target_number}
 use Rattle.words.specs.Steps.{has, may, in_range, in_six, target_in, link_in, share_in, listed, too_many, many, judged, and_then, worded, after_need, after_thing}
 use Rattle.rules.specs.Rules.{Ban, Making, Rule, Head, Partial, outside, in_needs, in_shares, in_links, in_struck_needs, in_struck_things, in_makes, grown, head_of, struck_needs_of, struck_things_of, makes_of, made, numbers, staged, tail, read_of, go_on, run, scanned, encode, rule_words, link_words, share_words, need_words, thing_words, ban_words, bans_words, makes_words}
 use Rattle.rules.specs.Formed.{Distinct, Links, FormedBan, FormedMaking, FormedRule, FormedRules}
-use Rattle.std.proofs.lemmas.Bool.Decides.{nat_tests}
 use Rattle.words.proofs.Coding.{Fits, said_item}
 use Rattle.rules.proofs.Machine.{passes}
 
@@ -104,7 +104,9 @@ makes_links_reach : (h : Head) (sn st : List ℕ) (n : ℕ) (ls : List PatternLi
 makes_links_reach h sn st n ls v k = links_reach (in_makes h sn st n) (h.variables + n) 12 (λ _ _. refl) (λ xs y. may_staged xs MakesOpened Made (Link y) refl refl) (λ _. refl) (λ _. refl) (λ _. refl) (λ _. refl) ls v k
 
 pub share_fits : (n : ℕ) (s : Share) → n ≤ 256 → share_in n s ≡ true → Fits (Shares s)
-share_fits n s h e = grind (arith, nat_tests)
+share_fits n New h e = tt
+share_fits n (With v) h e = let l = ltb-true v n e in omega arith
+share_fits n (Neither m) h e = absurd (false≢true e)
 
 pub six : (n : ℕ) → in_six n ≡ true → (1 ≤ n) × (n ≤ 6)
 six n h = let p = and_parts (leb 1 n) (leb n 6) h in (leb-true 1 n p.0, leb-true n 6 p.1)

@@ -6,6 +6,7 @@ pub mod Closing
 pub mod Complete
 pub mod Exactly
 pub mod Keeping
+pub mod KindNumbers
 pub mod WordKinds
 pub mod ValidLaws
 pub mod Machine

@@ -1,5 +1,5 @@
 -- the marks of a rule, part by part
-use Rattle.std.proofs.Common.{◌≡◌, ℕ, ◌+◌, ◌-◌, ◌/◌, ◌%◌, ◌^◌, ◌≤◌, min, Bool, true, false, cond, ◌&&◌, ltb, leb, List, [], ◌∷◌, ◌++◌, map, length, take, drop, Some, None, Option, sym, refl, ap, ◌∙◌, append_assoc, arith, length-append, length-drop}
+use Rattle.std.proofs.Common.{◌≡◌, ℕ, ◌+◌, ◌-◌, ◌/◌, ◌%◌, ◌^◌, ◌≤◌, min, Bool, true, false, cond, ◌&&◌, ◌||◌, ltb, leb, List, [], ◌∷◌, ◌++◌, map, length, take, drop, Some, None, Ok, Err, Option, Result, sym, refl, ap, ◌∙◌, append_assoc, arith, length-append, length-drop}
 use mathlib.Core.List.{map-append}
 use Rattle.std.proofs.lemmas.List.{length-map, take_rest}
 use Rattle.std.proofs.lemmas.Bool.{ltb-true, leb-true}
@@ -13,14 +13,16 @@ use Rattle.words.specs.declared.faults.RuleFault.{RuleFault}
 use Rattle.words.specs.declared.faults.RuleFault.TheVariants.{Unanchored, SharesNothing, LinksShared, MadeAtStruck}
 use Rattle.words.specs.Words.{word_of, link_of, share_of}
 use Rattle.words.proofs.Coding.{kind_of_word}
+use Rattle.rules.specs.declared.faults.PlacedFault.{PlacedFault}
 use Rattle.rules.specs.Rules.{Ban, Making, Rule, link_words, share_words, ban_words, bans_words, need_words, thing_words, makes_words}
 use Rattle.rules.specs.Formed.{FormedMaking, FormedRule}
 use Rattle.rules.specs.Anchors.{some, anchored, is_shared, aims, joins_shared, touches}
 use Rattle.rules.specs.Runs.{end_of}
 use Rattle.rules.specs.Parts.{RuleHere, BanHere}
-use Rattle.rules.specs.Marks.{fault_if, or_else, placed, first_mark, share_marks, link_marks, ban_marks, bans_marks, makes_marks, unmarked, rule_marks, last_marks, last_place, low_of, made_mark}
+use Rattle.rules.specs.Marks.{fault_if, or_else, placed, first_mark, passed, share_marks, link_marks, ban_marks, bans_marks, makes_marks, unmarked, rule_marks, last_marks, last_place, low_of, made_mark}
 use Rattle.rules.proofs.Complete.{six}
 use Rattle.rules.proofs.Spans.{Kinds, in_kind}
+use Rattle.rules.proofs.Marking.{passed_first, passed_next}
 use Rattle.rules.proofs.WordKinds.{kinds_links, kinds_needs, kinds_things, kinds_bans, kinds_wider, kinds_join, links_back, shares_back, starts_makes, starts_things, past_at, end_at, run_at}
 
 -- the first of the first, else the first of the second
@@ -37,7 +39,7 @@ share_marks_length : (before ss : List Share) → length (share_marks before ss)
 share_marks_length before [] = refl
 share_marks_length before (s ∷ ss) = let k = share_marks_length (before ++ s ∷ []) ss in omega arith
 
-ban_marks_length : (b : Ban) → length (ban_marks b) ≡ length (ban_words b)
+pub ban_marks_length : (b : Ban) → length (ban_marks b) ≡ length (ban_words b)
 ban_marks_length b =
     let a = length-append (share_marks [] b.shares) (link_marks b.shares b.links) in
     let c = length-append (share_words b.shares) (link_words b.links) in
@@ -67,16 +69,16 @@ module _ (place : ℕ) (ws : List ℕ) (n : ℕ) (b : Ban) (h : BanHere place ws
   anchored_read : anchored v (map link_of ls) ≡ anchored b.variables b.links
   anchored_read = ap (λ z. anchored z (map link_of ls)) vs ∙ ap (anchored b.variables) links_read
 
-  abbrev rest : Option (ℕ × RuleFault)
+  abbrev rest : Option PlacedFault
   rest = first_mark (place + 1) (share_marks [] b.shares ++ link_marks b.shares b.links)
 
-  abbrev opening : Bool → Bool → Option (ℕ × RuleFault)
+  abbrev opening : Bool → Bool → Option PlacedFault
   opening x y = or_else (placed place (cond x (cond y None (Some SharesNothing)) (Some Unanchored))) rest
 
-  pub ban_unanchored : anchored v (map link_of ls) ≡ false → Some (place, Unanchored) ≡ first_mark place (ban_marks b)
+  pub ban_unanchored : anchored v (map link_of ls) ≡ false → Some (record { place = place; fault = Unanchored }) ≡ first_mark place (ban_marks b)
   ban_unanchored e = sym (ap (λ z. opening z (some is_shared b.shares)) (sym anchored_read ∙ e))
 
-  pub ban_unshared : anchored v (map link_of ls) ≡ true → some is_shared (map share_of ss) ≡ false → Some (place, SharesNothing) ≡ first_mark place (ban_marks b)
+  pub ban_unshared : anchored v (map link_of ls) ≡ true → some is_shared (map share_of ss) ≡ false → Some (record { place = place; fault = SharesNothing }) ≡ first_mark place (ban_marks b)
   ban_unshared e f = sym (ap (λ z. opening z (some is_shared b.shares)) (sym anchored_read ∙ e) ∙ ap (opening true) (ap (some is_shared) (sym shares_read) ∙ f))
 
   module _ (e : anchored v (map link_of ls) ≡ true) (f : some is_shared (map share_of ss) ≡ true) (sp lp : ℕ) (ps : sp ≡ place + 1) (pl : lp ≡ place + 1 + length b.shares) where
@@ -101,11 +103,11 @@ module _ (place : ℕ) (ws : List ℕ) (n : ℕ) (b : Ban) (h : BanHere place ws
         let y : length ls ≡ length (link_words b.links) = ap length lw in
         (omega arith, omega arith)
 
-    pub ban_found : (o : Option (ℕ × RuleFault)) (x : ℕ × RuleFault) → (sp + length ss ≤ 1024 → o ≡ first_mark sp (share_marks [] (map share_of ss))) → o ≡ Some x → Some x ≡ first_mark place (ban_marks b)
-    ban_found o x g u = sym (ban_rest ∙ ap (λ z. or_else z (first_mark lp (link_marks (map share_of ss) (map link_of ls)))) (sym (g size.0) ∙ u))
+    pub ban_found : (o : Result (Unit {0}) PlacedFault) (x : PlacedFault) → (sp + length ss ≤ 1024 → o ≡ passed (first_mark sp (share_marks [] (map share_of ss)))) → o ≡ Err x → Err x ≡ passed (first_mark place (ban_marks b))
+    ban_found o x g u = sym (ap passed ban_rest ∙ passed_first (first_mark sp (share_marks [] (map share_of ss))) (first_mark lp (link_marks (map share_of ss) (map link_of ls))) x (sym (g size.0) ∙ u))
 
-    pub ban_links : (o p : Option (ℕ × RuleFault)) → (sp + length ss ≤ 1024 → o ≡ first_mark sp (share_marks [] (map share_of ss))) → o ≡ None → (lp + length ls ≤ 1024 → p ≡ first_mark lp (link_marks (map share_of ss) (map link_of ls))) → p ≡ first_mark place (ban_marks b)
-    ban_links o p g u k = k size.1 ∙ sym (ban_rest ∙ ap (λ z. or_else z (first_mark lp (link_marks (map share_of ss) (map link_of ls)))) (sym (g size.0) ∙ u))
+    pub ban_links : (o p : Result (Unit {0}) PlacedFault) → (sp + length ss ≤ 1024 → o ≡ passed (first_mark sp (share_marks [] (map share_of ss)))) → o ≡ Ok tt → (lp + length ls ≤ 1024 → p ≡ passed (first_mark lp (link_marks (map share_of ss) (map link_of ls)))) → p ≡ passed (first_mark place (ban_marks b))
+    ban_links o p g u k = k size.1 ∙ sym (ap passed ban_rest ∙ passed_next (first_mark sp (share_marks [] (map share_of ss))) (first_mark lp (link_marks (map share_of ss) (map link_of ls))) (sym (g size.0) ∙ u))
 
 -- the opening and the rest of a rule
 module _ (place : ℕ) (ws : List ℕ) (r : Rule) (h : RuleHere place ws r) where
@@ -119,7 +121,7 @@ module _ (place : ℕ) (ws : List ℕ) (r : Rule) (h : RuleHere place ws r) wher
     abbrev later : List (Option RuleFault)
     later = unmarked r.needs ++ (bans_marks r.bans ++ (unmarked r.struck_needs ++ (unmarked r.struck_things ++ last_marks r)))
 
-    pub rule_unanchored : anchored v (map link_of ls) ≡ false → Some (place, Unanchored) ≡ first_mark place (rule_marks r)
+    pub rule_unanchored : anchored v (map link_of ls) ≡ false → Some (record { place = place; fault = Unanchored }) ≡ first_mark place (rule_marks r)
     rule_unanchored e = sym (ap (λ z. or_else (placed place (cond z None (Some Unanchored))) (first_mark (place + 1) later)) (sym rule_anchor ∙ e))
 
     rule_anchored : anchored v (map link_of ls) ≡ true → first_mark place (rule_marks r) ≡ or_else (first_mark (place + 1 + length r.needs) (bans_marks r.bans)) (first_mark (last_place place r) (last_marks r))
@@ -133,11 +135,11 @@ module _ (place : ℕ) (ws : List ℕ) (r : Rule) (h : RuleHere place ws r) wher
         ∙ first_append p (bans_marks r.bans) (unmarked r.struck_needs ++ (unmarked r.struck_things ++ last_marks r))
         ∙ ap (or_else (first_mark p (bans_marks r.bans))) (first_unmarked q r.struck_needs (unmarked r.struck_things ++ last_marks r) ∙ first_unmarked (q + length r.struck_needs) r.struck_things (last_marks r) ∙ ap (λ z. first_mark z (last_marks r)) g)
 
-    pub rule_found : (x : ℕ × RuleFault) → anchored v (map link_of ls) ≡ true → Some x ≡ first_mark (place + 1 + length r.needs) (bans_marks r.bans) → Some x ≡ first_mark place (rule_marks r)
-    rule_found x e g = sym (rule_anchored e ∙ ap (λ z. or_else z (first_mark (last_place place r) (last_marks r))) (sym g))
+    pub rule_found : (x : PlacedFault) → anchored v (map link_of ls) ≡ true → Err x ≡ passed (first_mark (place + 1 + length r.needs) (bans_marks r.bans)) → Err x ≡ passed (first_mark place (rule_marks r))
+    rule_found x e g = sym (ap passed (rule_anchored e) ∙ passed_first (first_mark (place + 1 + length r.needs) (bans_marks r.bans)) (first_mark (last_place place r) (last_marks r)) x (sym g))
 
-    pub rule_last : (o : Option (ℕ × RuleFault)) → anchored v (map link_of ls) ≡ true → None ≡ first_mark (place + 1 + length r.needs) (bans_marks r.bans) → o ≡ first_mark (last_place place r) (last_marks r) → o ≡ first_mark place (rule_marks r)
-    rule_last o e g k = k ∙ sym (rule_anchored e ∙ ap (λ z. or_else z (first_mark (last_place place r) (last_marks r))) (sym g))
+    pub rule_last : (o : Result (Unit {0}) PlacedFault) → anchored v (map link_of ls) ≡ true → Ok tt ≡ passed (first_mark (place + 1 + length r.needs) (bans_marks r.bans)) → o ≡ passed (first_mark (last_place place r) (last_marks r)) → o ≡ passed (first_mark place (rule_marks r))
+    rule_last o e g k = k ∙ sym (ap passed (rule_anchored e) ∙ passed_next (first_mark (place + 1 + length r.needs) (bans_marks r.bans)) (first_mark (last_place place r) (last_marks r)) (sym g))
 
 -- struck things and the last words
 pub things_back : (n : ℕ) (st : List ℕ) → n ≤ 256 → AllByRecursion (λ k. ltb k n ≡ true) st → map low_of (thing_words st) ≡ st
@@ -223,7 +225,7 @@ module _ (place : ℕ) (ws : List ℕ) (r : Rule) (h : RuleHere place ws r) wher
       let f = length-map r.struck_things (λ k. word_of (StrikesThing k)) in
       omega arith
 
-  pub made_found : (things rest : List ℕ) (from p : ℕ) (o : Option (ℕ × RuleFault)) → things ≡ thing_words r.struck_things → from ≡ end_of 1 7 ws 0 → from ≤ length ws → rest ≡ take (length ws - from) (drop from ws) → p ≡ min (place + from) (2 ^ 64 - 1) → (p + length rest ≤ 1024 → o ≡ first_mark p (map (made_mark (map low_of things)) rest)) → o ≡ first_mark (last_place place r) (last_marks r)
+  pub made_found : (things rest : List ℕ) (from p : ℕ) (o : Result (Unit {0}) PlacedFault) → things ≡ thing_words r.struck_things → from ≡ end_of 1 7 ws 0 → from ≤ length ws → rest ≡ take (length ws - from) (drop from ws) → p ≡ min (place + from) (2 ^ 64 - 1) → (p + length rest ≤ 1024 → o ≡ passed (first_mark p (map (made_mark (map low_of things)) rest))) → o ≡ passed (first_mark (last_place place r) (last_marks r))
   made_found things rest from p o t f l w q k =
       let s = six r.variables h.formed.variables in
       let i = h.inside in
@@ -233,10 +235,11 @@ module _ (place : ℕ) (ws : List ℕ) (r : Rule) (h : RuleHere place ws r) wher
       let d : rest ≡ final = w ∙ take_rest ws from ∙ ap (λ z. drop z ws) (sym g) ∙ past_at ws 0 ((front_of r) ++ thing_words r.struck_things) final last_words in
       let x : length rest ≡ length ws - from = ap length (w ∙ take_rest ws from) ∙ length-drop from ws in
       let y : p ≡ last_place place r = omega arith in
-      k (omega arith) ∙ ap (λ z. first_mark z (map (made_mark (map low_of things)) rest)) y
+      k (omega arith)
+      ∙ ap passed (ap (λ z. first_mark z (map (made_mark (map low_of things)) rest)) y
       ∙ ap (λ z. first_mark (last_place place r) (map (made_mark (map low_of things)) z)) d
       ∙ ap (λ z. first_mark (last_place place r) (map (made_mark z) final)) (ap (map low_of) t ∙ things_back r.variables r.struck_things (omega arith) h.formed.struck_things)
-      ∙ ap (first_mark (last_place place r)) (last_words_marks r.variables r.struck_things r.makes s.1 h.formed.makes)
+      ∙ ap (first_mark (last_place place r)) (last_words_marks r.variables r.struck_things r.makes s.1 h.formed.makes))
 
 pub mark_touches : (st : List ℕ) (m : ℕ) → some (λ k. aims k (Mark m)) st ≡ false
 mark_touches [] m = refl
@@ -244,3 +247,7 @@ mark_touches (k ∷ ks) m = mark_touches ks m
 
 pub touches_mark : (st : List ℕ) (t : Target) {m : ℕ} → t ≡ Mark m → some (λ k. aims k t) st ≡ false
 touches_mark st t {m = m} e = ap (λ t. some (λ k. aims k t) st) e ∙ mark_touches st m
+
+pub or_false : (b : Bool) → (b || false) ≡ b
+or_false true = refl
+or_false false = refl

@@ -1,26 +1,27 @@
 -- the rules of a set, found one after another
-use Rattle.std.proofs.Common.{◌≡◌, ℕ, ◌+◌, ◌-◌, ◌<◌, ◌≤◌, true, false, cond, ltb, List, [], ◌∷◌, ◌++◌, length, take, drop, Some, None, Option, sym, refl, ap, ◌∙◌, subst, append_assoc, append-nil, arith, length-append, length-drop}
+use Rattle.std.proofs.Common.{◌≡◌, ℕ, ◌+◌, ◌-◌, ◌<◌, ◌≤◌, true, false, cond, ltb, List, [], ◌∷◌, ◌++◌, length, take, drop, Some, None, Ok, Err, Option, Result, sym, refl, ap, ◌∙◌, subst, append_assoc, append-nil, arith, length-append, length-drop}
 use Rattle.std.proofs.lemmas.List.{drop_all}
 use Rattle.std.proofs.lemmas.Bool.{lt-ltb, le-ltb, leb-true}
 use Rattle.std.specs.List.{AllByRecursion}
 use Rattle.words.specs.declared.items.Item.TheVariants.{Opens, Makes, Ends}
-use Rattle.words.specs.declared.faults.RuleFault.{RuleFault}
-use Rattle.words.specs.declared.faults.Cause.TheVariants.{InRule}
 use Rattle.words.specs.Words.{word_of}
 use Rattle.words.proofs.Coding.{kind_of_word}
+use Rattle.rules.specs.declared.faults.PlacedFault.{PlacedFault}
+use Rattle.rules.specs.declared.faults.SetFault.{SetFault}
 use Rattle.rules.specs.declared.parts.RuleRun.{RuleRun}
 use Rattle.rules.specs.Rules.{Making, Rule, rule_words, encode, link_words, bans_words, need_words, thing_words, makes_words}
 use Rattle.rules.specs.Formed.{FormedMaking, FormedRule}
 use Rattle.rules.specs.Runs.{span, end_of, rule_end}
 use Rattle.rules.specs.Parts.{RuleHere}
 use Rattle.rules.specs.Handed.{RuleIs}
-use Rattle.rules.specs.Marks.{or_else, first_mark, rule_marks, in_rule, second_fault}
+use Rattle.rules.specs.Marks.{passed, or_else, first_mark, rule_marks, fault_in, in_rule, second_fault}
 use Rattle.rules.specs.Sets.{RuleStart}
 use Rattle.rules.proofs.Complete.{six}
 use Rattle.rules.proofs.Spans.{Kinds, in_kind}
 use Rattle.rules.proofs.WordKinds.{kinds_links, kinds_things, kinds_wider, kinds_join, end_at, run_at}
 use Rattle.rules.proofs.Walking.{Suffixes, suffix_at, split, past, Reached, reached_element, reached_more, joined_push}
 use Rattle.rules.proofs.RuleMarks.{front_of, front_kinds}
+use Rattle.rules.proofs.Marking.{passed_first, passed_next, passed_first_in, passed_next_in}
 
 -- all words of a rule but its last
 abbrev pub body_of : Rule → List ℕ
@@ -105,42 +106,47 @@ no_rule_left rs i place h = subst (λ z. RuleIs place z None) (sym (drop_all i r
 
 -- the second pass over the rules
 abbrev pub FaultsFrom : List Rule → ℕ → Type 0
-FaultsFrom rs i = second_fault i (length (encode (take i rs))) (drop i rs) ≡ second_fault 0 0 rs
+FaultsFrom rs i = passed (second_fault i (length (encode (take i rs))) (drop i rs)) ≡ passed (second_fault 0 0 rs)
 
 module _ (rs : List Rule) (i : ℕ) (v : FaultsFrom rs i) where
   abbrev at : ℕ
   at = length (encode (take i rs))
 
-  end_cases : (l : List Rule) → drop i rs ≡ l → RuleIs at l None → None ≡ second_fault 0 0 rs
-  end_cases [] e b = sym (ap (second_fault i at) e) ∙ v
+  end_cases : (l : List Rule) → drop i rs ≡ l → RuleIs at l None → Ok tt ≡ passed (second_fault 0 0 rs)
+  end_cases [] e b = sym (ap (λ z. passed (second_fault i at z)) e) ∙ v
   end_cases (x ∷ xs) e b = absurd b
 
-  pub faults_end : RuleIs at (drop i rs) None → None ≡ second_fault 0 0 rs
+  pub faults_end : RuleIs at (drop i rs) None → Ok tt ≡ passed (second_fault 0 0 rs)
   faults_end b = end_cases (drop i rs) refl b
 
-  pub faults_all : length rs ≤ i → None ≡ second_fault 0 0 rs
-  faults_all h = sym (ap (second_fault i at) (drop_all i rs h)) ∙ v
+  pub faults_all : length rs ≤ i → Ok tt ≡ passed (second_fault 0 0 rs)
+  faults_all h = sym (ap (λ z. passed (second_fault i at z)) (drop_all i rs h)) ∙ v
 
-  module _ (q : RuleRun) (o : Option (ℕ × RuleFault)) (f : (r : Rule) → RuleHere q.place q.words.now r → o ≡ first_mark q.place (rule_marks r)) where
-    here : (r : Rule) (xs : List Rule) → drop i rs ≡ r ∷ xs → (q.place ≡ at) × RuleHere q.place q.words.now r → second_fault 0 0 rs ≡ or_else (in_rule i o) (second_fault (i + 1) (at + length (rule_words r)) xs)
-    here r xs e h =
-        sym v ∙ ap (second_fault i at) e
-        ∙ ap (λ z. or_else (in_rule i z) (second_fault (i + 1) (at + length (rule_words r)) xs)) (ap (λ z. first_mark z (rule_marks r)) (sym h.0) ∙ sym (f r h.1))
+  -- what the check of one rule answers
+  module _ (q : RuleRun) (o : Result (Unit {0}) PlacedFault) (f : (r : Rule) → RuleHere q.place q.words.now r → o ≡ passed (first_mark q.place (rule_marks r))) where
+    abbrev one : Rule → Option PlacedFault
+    one r = first_mark q.place (rule_marks r)
 
-    hit_cases : (x : ℕ × RuleFault) (l : List Rule) → drop i rs ≡ l → RuleIs at l (Some q) → o ≡ Some x → Some (record { place = x.0; rule = i; cause = InRule x.1 }) ≡ second_fault 0 0 rs
+    abbrev others : Rule → List Rule → Option SetFault
+    others r xs = second_fault (i + 1) (at + length (rule_words r)) xs
+
+    here : (r : Rule) (xs : List Rule) → drop i rs ≡ r ∷ xs → q.place ≡ at → passed (second_fault 0 0 rs) ≡ passed (or_else (in_rule i (one r)) (others r xs))
+    here r xs e h = sym v ∙ ap passed (ap (second_fault i at) e ∙ ap (λ z. or_else (in_rule i (first_mark z (rule_marks r))) (others r xs)) (sym h))
+
+    hit_cases : (x : PlacedFault) (l : List Rule) → drop i rs ≡ l → RuleIs at l (Some q) → o ≡ Err x → Err (fault_in i x) ≡ passed (second_fault 0 0 rs)
     hit_cases x [] e b u = absurd b
-    hit_cases x (r ∷ xs) e h u = sym (here r xs e h ∙ ap (λ z. or_else (in_rule i z) (second_fault (i + 1) (at + length (rule_words r)) xs)) u)
+    hit_cases x (r ∷ xs) e h u = sym (here r xs e h.0 ∙ passed_first (in_rule i (one r)) (others r xs) (fault_in i x) (passed_first_in i (one r) x (sym (f r h.1) ∙ u)))
 
-    pub faults_hit : (x : ℕ × RuleFault) → RuleIs at (drop i rs) (Some q) → o ≡ Some x → Some (record { place = x.0; rule = i; cause = InRule x.1 }) ≡ second_fault 0 0 rs
+    pub faults_hit : (x : PlacedFault) → RuleIs at (drop i rs) (Some q) → o ≡ Err x → Err (fault_in i x) ≡ passed (second_fault 0 0 rs)
     faults_hit x b u = hit_cases x (drop i rs) refl b u
 
-    miss_cases : (l : List Rule) → drop i rs ≡ l → RuleIs at l (Some q) → o ≡ None → FaultsFrom rs (i + 1)
+    miss_cases : (l : List Rule) → drop i rs ≡ l → RuleIs at l (Some q) → o ≡ Ok tt → FaultsFrom rs (i + 1)
     miss_cases [] e b u = absurd b
     miss_cases (r ∷ xs) e h u =
         let s = split rs i r xs e in
         let g : length (encode (take (i + 1) rs)) ≡ at + length (rule_words r) = ap (λ z. length (encode z)) s.before ∙ ap length (joined_push rule_words encode refl (λ _ _. refl) (take i rs) r) ∙ length-append (encode (take i rs)) (rule_words r) in
-        ap (λ z. second_fault (i + 1) z (drop (i + 1) rs)) g ∙ ap (second_fault (i + 1) (at + length (rule_words r))) s.after
-        ∙ sym (here r xs e h ∙ ap (λ z. or_else (in_rule i z) (second_fault (i + 1) (at + length (rule_words r)) xs)) u)
+        ap (λ z. passed (second_fault (i + 1) z (drop (i + 1) rs))) g ∙ ap (λ z. passed (second_fault (i + 1) (at + length (rule_words r)) z)) s.after
+        ∙ sym (here r xs e h.0 ∙ passed_next (in_rule i (one r)) (others r xs) (passed_next_in i (one r) (sym (f r h.1) ∙ u)))
 
-    pub faults_miss : RuleIs at (drop i rs) (Some q) → o ≡ None → FaultsFrom rs (i + 1)
+    pub faults_miss : RuleIs at (drop i rs) (Some q) → o ≡ Ok tt → FaultsFrom rs (i + 1)
     faults_miss b u = miss_cases (drop i rs) refl b u

@@ -3,9 +3,9 @@ use Rattle.std.proofs.Common.{◌≡◌, ℕ, zero, suc, ◌<◌, ◌≤◌, Boo
 use Rattle.std.specs.List.{AllByRecursion}
 use Rattle.std.proofs.ByRecursion.{All-get_or, All-weaker}
 use Rattle.std.proofs.lemmas.Bool.{and_parts, or_cases, ltb-true, cases_eq}
-use Rattle.std.proofs.lemmas.Bool.Decides.{nat_tests}
 use Rattle.words.specs.declared.items.PatternLink.{PatternLink}
 use Rattle.words.specs.declared.items.Share.{Share}
+use Rattle.words.specs.declared.items.Share.TheVariants.{New, With}
 use Rattle.words.specs.Steps.{target_in, link_in, share_in}
 use Rattle.rules.specs.declared.faults.SetFault.{SetFault}
 use Rattle.rules.specs.declared.sets.RuleSet.{RuleSet}
@@ -62,20 +62,19 @@ some_at p d (x ∷ xs) h =
     (or_cases (p x) (some p xs) h)
 
 -- a ban shares at least one variable, and only rule variables
-shared_range : (n : ℕ) (s : Share) → share_in n s ≡ true → is_shared s ≡ true → s.variable < n
-shared_range n s h e = grind (arith, nat_tests)
+shared_range : (n v : ℕ) (s : Share) → share_in n s ≡ true → s ≡ With v → v < n
+shared_range n v s h e = ltb-true v n (ap (share_in n) (sym e) ∙ h)
 
 pub ban_laws : (n : ℕ) (b : Ban) → FormedBan n b → ValidBan b → BanLaws n b
 ban_laws n b f v =
-    let d : Share = record { shared = 0; variable = 0 } in
     record {
       variables = six b.variables f.variables;
       shares = f.all;
       links = (f.some, f.links.few);
       ranges = link_ranges b.variables b.links f.links.ranges;
       anchored = λ u h. each_anchored b.variables b.links u v.anchored h;
-      shared = some_at is_shared d b.shares v.shares;
-      reach = λ k h e. shared_range n (get_or b.shares k d) (All-get_or (λ s. share_in n s ≡ true) b.shares k d h f.shares) e;
+      shared = some_at is_shared New b.shares v.shares;
+      reach = λ k u h e. shared_range n u (get_or b.shares k New) (All-get_or (λ s. share_in n s ≡ true) b.shares k New h f.shares) e;
     }
 
 bans_laws : (n : ℕ) (bs : List Ban) → AllByRecursion (FormedBan n) bs → AllByRecursion ValidBan bs → AllByRecursion (BanLaws n) bs

@@ -3,6 +3,7 @@ use Rattle.std.specs.Prelude.{◌≡◌, ℕ, ◌<◌, ◌≤◌, true, List, le
 use Rattle.std.specs.List.{AllByRecursion}
 use Rattle.words.specs.declared.items.PatternLink.{PatternLink}
 use Rattle.words.specs.declared.items.Share.{Share}
+use Rattle.words.specs.declared.items.Share.TheVariants.{New, With}
 use Rattle.words.specs.Steps.{target_in}
 use Rattle.rules.specs.Rules.{Ban, Rule}
 use Rattle.rules.specs.Anchors.{some, anchors, is_shared}
@@ -20,7 +21,7 @@ EachAnchored n ls = (v : ℕ) → v < n → some (anchors v) ls ≡ true
 
 -- the ban variable number k, new past the last
 abbrev pub share_at : List Share → ℕ → Share
-share_at ss k = slice_index_or ss k (record { shared = 0; variable = 0 })
+share_at ss k = slice_index_or ss k New
 
 -- a ban of a rule with n variables: counts and values in range, anchored, at least one variable shared, and only with rule variables
 pub record BanLaws (n : ℕ) (b : Ban) : Type 0 where
@@ -30,7 +31,7 @@ pub record BanLaws (n : ℕ) (b : Ban) : Type 0 where
   pub ranges : AllByRecursion (LinkRange b.variables) b.links
   pub anchored : EachAnchored b.variables b.links
   pub shared : (k : ℕ) × (k < length b.shares) × (is_shared (share_at b.shares k) ≡ true)
-  pub reach : (k : ℕ) → k < length b.shares → is_shared (share_at b.shares k) ≡ true → (share_at b.shares k).variable < n
+  pub reach : (k v : ℕ) → k < length b.shares → share_at b.shares k ≡ With v → v < n
 
 -- a rule: counts and values in range, every variable anchored, and its bans likewise
 pub record RuleLaws (r : Rule) : Type 0 where

@@ -6,6 +6,7 @@ use Rattle.words.specs.declared.faults.RuleFault.{RuleFault}
 use Rattle.words.specs.declared.faults.RuleFault.TheVariants.{Unanchored, SharesNothing, SharesTwice, LinksShared, MadeAtStruck}
 use Rattle.words.specs.declared.faults.Cause.TheVariants.{InRule}
 use Rattle.rules.specs.declared.faults.SetFault.{SetFault}
+use Rattle.rules.specs.declared.faults.PlacedFault.{PlacedFault}
 use Rattle.rules.specs.Rules.{Ban, Making, Rule, rule_words, bans_words}
 use Rattle.words.specs.Words.{link_of}
 use Rattle.rules.specs.Runs.{within}
@@ -22,12 +23,12 @@ or_else None y = y
 or_else (Some x) y = Some x
 
 -- a word's fault with its place
-abbrev pub placed : ℕ → Option RuleFault → Option (ℕ × RuleFault)
+abbrev pub placed : ℕ → Option RuleFault → Option PlacedFault
 placed place None = None
-placed place (Some f) = Some (place, f)
+placed place (Some f) = Some (record { place = place; fault = f })
 
 -- the first word that has a fault
-abbrev pub first_mark : ℕ → List (Option RuleFault) → Option (ℕ × RuleFault)
+abbrev pub first_mark : ℕ → List (Option RuleFault) → Option PlacedFault
 first_mark place [] = None
 first_mark place (m ∷ ms) = or_else (placed place m) (first_mark (place + 1) ms)
 
@@ -85,10 +86,24 @@ low_of w = w % 256
 abbrev pub made_mark : List ℕ → ℕ → Option RuleFault
 made_mark st w = fault_if (within 2 3 w && touches st (link_of w)) MadeAtStruck
 
+-- what a pass answers, by the first fault that it found
+abbrev pub passed : {F : Type 0} → Option F → Result (Unit {0}) F
+passed None = Ok tt
+passed (Some f) = Err f
+
+-- the fault in a set, where it is rule number n's
+abbrev pub fault_in : ℕ → PlacedFault → SetFault
+fault_in n m = record { place = m.place; rule = n; cause = InRule m.fault }
+
+-- the fault at each word of which the test says so, by the word's number from n on
+abbrev pub marks_by : (ℕ → ℕ → Bool) → RuleFault → ℕ → List ℕ → List (Option RuleFault)
+marks_by t f n [] = []
+marks_by t f n (w ∷ ws) = fault_if (t n w) f ∷ marks_by t f (n + 1) ws
+
 -- the first fault of rule number n, whose first word stands at the place
-abbrev pub in_rule : ℕ → Option (ℕ × RuleFault) → Option SetFault
+abbrev pub in_rule : ℕ → Option PlacedFault → Option SetFault
 in_rule n None = None
-in_rule n (Some m) = Some (record { place = m.0; rule = n; cause = InRule m.1 })
+in_rule n (Some m) = Some (fault_in n m)
 
 -- the first fault of the rules from number n on, of which the first stands at the place
 abbrev pub second_fault : ℕ → ℕ → List Rule → Option SetFault

@@ -1,5 +1,6 @@
 -- Runs of words by their kind.
-use Rattle.std.specs.Prelude.{ℕ, ◌+◌, ◌/◌, ◌^◌, Bool, cond, ◌&&◌, ◌||◌, List, [], ◌∷◌, length, drop, Some, None, Option, ◌==◌, nat_le, nat_lt, slice_index}
+use Rattle.std.specs.List.{prefix_len}
+use Rattle.std.specs.Prelude.{ℕ, ◌+◌, ◌/◌, ◌^◌, Bool, cond, ◌&&◌, ◌||◌, List, length, drop, Some, None, Option, ◌==◌, nat_le, nat_lt, slice_index}
 
 -- the word has a kind from low to high
 abbrev pub within : ℕ → ℕ → ℕ → Bool
@@ -7,8 +8,7 @@ within low high w = nat_le low (w / 2 ^ 28) && nat_le (w / 2 ^ 28) high
 
 -- how many words from the start have such a kind
 abbrev pub span : ℕ → ℕ → List ℕ → ℕ
-span low high [] = 0
-span low high (w ∷ ws) = cond (within low high w) (1 + span low high ws) 0
+span low high ws = prefix_len (within low high) ws
 
 -- where the run of such words that begins at the place ends
 abbrev pub end_of : ℕ → ℕ → List ℕ → ℕ → ℕ

@@ -1,5 +1,5 @@
 -- A rule set as it is lent, and what reading answers.
-use Rattle.std.specs.Prelude.{◌≡◌, ℕ, ◌≤◌, List, length, take, drop, Some, None, Ok, Err, Option, Result}
+use Rattle.std.specs.Prelude.{◌≡◌, ℕ, ◌≤◌, List, length, take, drop, Ok, Err, Result}
 use Rattle.std.specs.List.{AllByRecursion}
 use Rattle.rules.specs.declared.faults.SetFault.{SetFault}
 use Rattle.rules.specs.declared.sets.RuleSet.{RuleSet}
@@ -17,11 +17,6 @@ pub record SetHere (s : RuleSet) (rs : List Rule) : Type 0 where
 -- `at` is where rule i begins
 abbrev pub RuleStart : List ℕ → List Rule → ℕ → ℕ → Type 0
 RuleStart ws rs i at = (at ≡ length (encode (take i rs))) × (drop at ws ≡ encode (drop i rs))
-
--- what the second pass answers
-abbrev pub passed : Option SetFault → Result (Unit {0}) SetFault
-passed None = Ok tt
-passed (Some f) = Err f
 
 -- Read: the set of the given words, which say these rules. Refused: the fault, and no rules that the words say.
 abbrev pub ReadAs : List ℕ → Result RuleSet SetFault → Type 0

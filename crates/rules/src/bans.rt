@@ -4,8 +4,8 @@ ghost use Rattle.rules.specs.Rules.{Ban};
 ghost use Rattle.rules.specs.Parts.{BanHere};
 ghost use Rattle.rules.specs.Handed.{LinksAre, SharesAre};
 
-use crate::runs::{Run, run_end};
-use words::low_byte;
+use crate::runs::{Run, first_number, run_end};
+use words::Kind;
 
 // One ban's words, and the place of the first.
 #[derive(Clone, Copy)]
@@ -18,34 +18,30 @@ impl<'a> BanRun<'a> {
     pub fn variables(self) -> u32
         ensures { (n : ℕ) (b : Ban) → BanHere self.entry.place self.entry.words.now n b → result ≡ b.variables }
     {
-        if self.words.len() == 0 {
-            0
-        } else {
-            low_byte(self.words[0])
-        }
+        first_number(self.words)
     }
 
-    // A word of kind 5 for each variable.
+    // A word for each variable.
     pub fn shares(self) -> Run<'a>
         ensures { (n : ℕ) (b : Ban) → BanHere self.entry.place self.entry.words.now n b → SharesAre (self.entry.place + 1) b.shares result }
     {
         let from = self.words.len().min(1);
-        let end = run_end(self.words, from, 5, 5);
+        let end = run_end(self.words, from, Kind::Shares..=Kind::Shares);
         Run {
             place: self.place.saturating_add(1),
             words: &self.words[from..end],
         }
     }
 
-    // A word of kind 2 or 3 for each link.
+    // A word for each link.
     pub fn links(self) -> Run<'a>
         ensures { (n : ℕ) (b : Ban) → BanHere self.entry.place self.entry.words.now n b → LinksAre (self.entry.place + 1 + length b.shares) b.links result }
     {
         let from = self.words.len().min(1);
-        let end = run_end(self.words, from, 5, 5);
+        let end = run_end(self.words, from, Kind::Shares..=Kind::Shares);
         Run {
             place: self.place.saturating_add(end),
-            words: &self.words[end..self.words.len()],
+            words: &self.words[end..],
         }
     }
 }

@@ -1,81 +1,76 @@
 // The second pass over one rule: numbers 14, 15 and 17.
-ghost use Rattle.std.specs.Prelude.{◌≡◌, ℕ, ◌+◌, ◌%◌, ◌≤◌, ◌&&◌, [], ◌∷◌, ◌++◌, map, length, nat_eq};
+ghost use Rattle.std.specs.Prelude.{◌≡◌, ℕ, ◌+◌, ◌≤◌, ◌&&◌, map, length, nat_eq};
 ghost use Rattle.words.specs.Words.{link_of};
 ghost use Rattle.rules.specs.Rules.{Ban, Rule, thing_words};
 ghost use Rattle.rules.specs.Anchors.{some, touches};
 ghost use Rattle.rules.specs.Runs.{within};
 ghost use Rattle.rules.specs.Parts.{RuleHere, BanHere};
-ghost use Rattle.rules.specs.Marks.{first_mark, ban_marks, bans_marks, rule_marks, made_mark, low_of, last_marks, last_place};
+ghost use Rattle.rules.specs.Marks.{passed, first_mark, ban_marks, bans_marks, rule_marks, made_mark, low_of, last_marks, last_place};
 
-use crate::anchors::{is_anchored, link_fault, share_fault, shares_any};
+use crate::anchors::{check_links, check_shares, is_anchored, shares_any};
 use crate::bans::BanRun;
+use crate::faults::PlacedFault;
 use crate::parts::RuleRun;
-use crate::runs::run_end;
-use words::{PatternLink, RuleFault, Target, link_of};
+use crate::runs::{Run, is_of, run_end};
+use words::{Kind, PatternLink, RuleFault, Target, low_byte};
 
-fn ban_fault(ban: BanRun) -> Option<(usize, RuleFault)>
-    ensures { (n : ℕ) (b : Ban) → BanHere ban.entry.place ban.entry.words.now n b → result ≡ first_mark ban.entry.place (ban_marks b) }
+fn check_ban(ban: BanRun) -> Result<(), PlacedFault>
+    ensures { (n : ℕ) (b : Ban) → BanHere ban.entry.place ban.entry.words.now n b → result ≡ passed (first_mark ban.entry.place (ban_marks b)) }
 {
     let shares = ban.shares();
     let links = ban.links();
     if !is_anchored(ban.variables(), links.words) {
-        return Some((ban.place, RuleFault::Unanchored));
+        return Err(PlacedFault {
+            place: ban.place,
+            fault: RuleFault::Unanchored,
+        });
     }
     if !shares_any(shares.words) {
-        return Some((ban.place, RuleFault::SharesNothing));
+        return Err(PlacedFault {
+            place: ban.place,
+            fault: RuleFault::SharesNothing,
+        });
     }
-    match share_fault(shares.words, shares.place) {
-        Some(found) => Some(found),
-        None => link_fault(shares.words, links.words, links.place),
-    }
+    check_shares(shares)?;
+    check_links(shares.words, links)
 }
 
-fn bans_fault(rule: RuleRun) -> Option<(usize, RuleFault)>
-    ensures { (r : Rule) → RuleHere rule.entry.place rule.entry.words.now r → result ≡ first_mark (rule.entry.place + 1 + length r.needs) (bans_marks r.bans) }
+fn check_bans(rule: RuleRun) -> Result<(), PlacedFault>
+    ensures { (r : Rule) → RuleHere rule.entry.place rule.entry.words.now r → result ≡ passed (first_mark (rule.entry.place + 1 + length r.needs) (bans_marks r.bans)) }
 {
     for i in 0..4 {
         let Some(ban) = rule.ban(i) else {
-            return None;
+            return Ok(());
         };
-        match ban_fault(ban) {
-            Some(found) => {
-                return Some(found);
-            }
-            None => {}
-        }
+        check_ban(ban)?;
     }
-    None
+    Ok(())
 }
 
-// A word of kind 7 for each struck thing.
+// The word of each struck thing.
 fn struck_things<'a>(rule: RuleRun<'a>) -> &'a [u32]
     ensures { (r : Rule) → RuleHere rule.entry.place rule.entry.words.now r → result.now ≡ thing_words r.struck_things }
 {
-    let from = run_end(rule.words, 0, 1, 6);
-    let end = run_end(rule.words, from, 7, 7);
+    let from = run_end(rule.words, 0, Kind::Opens..=Kind::StrikesNeed);
+    let end = run_end(rule.words, from, Kind::StrikesThing..=Kind::StrikesThing);
     &rule.words[from..end]
 }
 
 fn is_struck(v: u32, things: &[u32]) -> bool
     ensures { result ≡ some (nat_eq v) (map low_of things.now) }
 {
-    for word in things {
-        if v == *word % 256 {
-            return true;
-        }
-    }
-    false
+    things
+        .iter()
+        .map(|word| low_byte(*word))
+        .any(|thing| v == thing)
 }
 
 fn is_at_struck(things: &[u32], link: PatternLink) -> bool
     ensures { result ≡ touches (map low_of things.now) link }
 {
-    if is_struck(link.source, things) {
-        return true;
-    }
     match link.target {
-        Target::Variable(v) => is_struck(v, things),
-        Target::Mark(_) => false,
+        Target::Variable(v) => is_struck(link.source, things) || is_struck(v, things),
+        Target::Mark(_) => is_struck(link.source, things),
     }
 }
 
@@ -83,41 +78,41 @@ fn is_at_struck(things: &[u32], link: PatternLink) -> bool
 fn is_made_at_struck(things: &[u32], word: u32) -> bool
     ensures { result ≡ (within 2 3 word && touches (map low_of things.now) (link_of word)) }
 {
-    let kind = word >> 28;
-    let touching = is_at_struck(things, link_of(word));
-    2 <= kind && kind <= 3 && touching
+    is_of(word, &(Kind::LinkToVariable..=Kind::LinkToMark))
+        && is_at_struck(things, PatternLink::from(word))
 }
 
-fn first_made_at_struck(things: &[u32], words: &[u32], place: usize) -> Option<(usize, RuleFault)>
-    ensures { place + length words.now ≤ 1024 → result ≡ first_mark place (map (made_mark (map low_of things.now)) words.now) }
+// Refuses the first made link at a struck thing.
+fn check_made(things: &[u32], words: Run) -> Result<(), PlacedFault>
+    ensures { words.entry.place + length words.entry.words.now ≤ 1024 → result ≡ passed (first_mark words.entry.place (map (made_mark (map low_of things.now)) words.entry.words.now)) }
 {
-    for i in 0..words.len() {
-        if is_made_at_struck(things, words[i]) {
-            return Some((place.saturating_add(i), RuleFault::MadeAtStruck));
-        }
-    }
-    None
+    words.check_words(
+        |_, word| is_made_at_struck(things, word),
+        RuleFault::MadeAtStruck,
+    )
 }
 
-fn made_fault(rule: RuleRun) -> Option<(usize, RuleFault)>
-    ensures { (r : Rule) → RuleHere rule.entry.place rule.entry.words.now r → result ≡ first_mark (last_place rule.entry.place r) (last_marks r) }
+fn check_makes(rule: RuleRun) -> Result<(), PlacedFault>
+    ensures { (r : Rule) → RuleHere rule.entry.place rule.entry.words.now r → result ≡ passed (first_mark (last_place rule.entry.place r) (last_marks r)) }
 {
-    let things = struck_things(rule);
-    let from = run_end(rule.words, 0, 1, 7);
-    let rest = &rule.words[from..rule.words.len()];
-    first_made_at_struck(things, rest, rule.place.saturating_add(from))
+    let from = run_end(rule.words, 0, Kind::Opens..=Kind::StrikesThing);
+    let rest = Run {
+        place: rule.place.saturating_add(from),
+        words: &rule.words[from..],
+    };
+    check_made(struck_things(rule), rest)
 }
 
-// The first word of a rule that has a fault of the second pass.
-pub fn rule_fault(rule: RuleRun) -> Option<(usize, RuleFault)>
-    ensures { (r : Rule) → RuleHere rule.entry.place rule.entry.words.now r → result ≡ first_mark rule.entry.place (rule_marks r) }
+// Refuses the first word of a rule that has a fault of the second pass.
+pub fn check_rule(rule: RuleRun) -> Result<(), PlacedFault>
+    ensures { (r : Rule) → RuleHere rule.entry.place rule.entry.words.now r → result ≡ passed (first_mark rule.entry.place (rule_marks r)) }
 {
-    let needs = rule.needs();
-    if !is_anchored(rule.variables(), needs.words) {
-        return Some((rule.place, RuleFault::Unanchored));
+    if !is_anchored(rule.variables(), rule.needs().words) {
+        return Err(PlacedFault {
+            place: rule.place,
+            fault: RuleFault::Unanchored,
+        });
     }
-    match bans_fault(rule) {
-        Some(found) => Some(found),
-        None => made_fault(rule),
-    }
+    check_bans(rule)?;
+    check_makes(rule)
 }

@@ -11,6 +11,7 @@ mod runs;
 mod scanning;
 mod sets;
 
+pub use anchors::is_anchor;
 pub use bans::BanRun;
 pub use faults::SetFault;
 pub use parts::{Part, RuleRun};

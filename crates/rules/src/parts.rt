@@ -6,8 +6,8 @@ ghost use Rattle.rules.specs.Parts.{RuleHere, pieces, pieces_words};
 ghost use Rattle.rules.specs.Handed.{PartAt, PartIs, Cut, BanIs, LinksAre, ban_of};
 
 use crate::bans::BanRun;
-use crate::runs::{Run, part_end, run_end};
-use words::low_byte;
+use crate::runs::{Run, first_number, part_end, run_end};
+use words::Kind;
 
 // One rule's words, and the place of the first.
 #[derive(Clone, Copy)]
@@ -29,11 +29,7 @@ impl<'a> RuleRun<'a> {
     pub fn variables(self) -> u32
         ensures { (r : Rule) → RuleHere self.entry.place self.entry.words.now r → result ≡ r.variables }
     {
-        if self.words.len() == 0 {
-            0
-        } else {
-            low_byte(self.words[0])
-        }
+        first_number(self.words)
     }
 
     // Part number `i`, counted from 0 in the order of the words; a rule has at most seven.
@@ -58,12 +54,12 @@ impl<'a> RuleRun<'a> {
         as_ban(self.part(i + 1))
     }
 
-    // A word of kind 2 or 3 for each need.
+    // A word for each need.
     pub fn needs(self) -> Run<'a>
         ensures { (r : Rule) → RuleHere self.entry.place self.entry.words.now r → LinksAre (self.entry.place + 1) r.needs result }
     {
         let from = self.words.len().min(1);
-        let end = run_end(self.words, from, 2, 3);
+        let end = run_end(self.words, from, Kind::LinkToVariable..=Kind::LinkToMark);
         Run {
             place: self.place.saturating_add(1),
             words: &self.words[from..end],
@@ -100,14 +96,13 @@ fn cut<'a>(rule: RuleRun<'a>, at: usize, end: usize) -> Option<Part<'a>>
     if at == rule.words.len() {
         return None;
     }
-    let kind = rule.words[at] >> 28;
     let place = rule.place.saturating_add(at);
     let words = &rule.words[at..end];
-    match kind {
-        2 | 3 => Some(Part::Need(Run { place, words })),
-        4 => Some(Part::Ban(BanRun { place, words })),
-        6 | 7 => Some(Part::Strike(Run { place, words })),
-        8 => Some(Part::Makes(Run { place, words })),
+    match Kind::of(rule.words[at]) {
+        Some(Kind::LinkToVariable | Kind::LinkToMark) => Some(Part::Need(Run { place, words })),
+        Some(Kind::Bans) => Some(Part::Ban(BanRun { place, words })),
+        Some(Kind::StrikesNeed | Kind::StrikesThing) => Some(Part::Strike(Run { place, words })),
+        Some(Kind::Makes) => Some(Part::Makes(Run { place, words })),
         _ => None,
     }
 }

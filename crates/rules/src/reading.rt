@@ -1,12 +1,12 @@
 // Reading a rule set: the words' number first, then the first pass over all words, then the second.
 ghost use Rattle.std.specs.Prelude.{◌≡◌, List};
 ghost use Rattle.rules.specs.Rules.{Rule};
-ghost use Rattle.rules.specs.Marks.{second_fault};
+ghost use Rattle.rules.specs.Marks.{passed, second_fault};
 ghost use Rattle.rules.specs.Reading.{EachExact, Apart, RuleTold};
 ghost use Rattle.rules.specs.Laws.{Lawful};
-ghost use Rattle.rules.specs.Sets.{SetHere, ReadAs, passed};
+ghost use Rattle.rules.specs.Sets.{SetHere, ReadAs};
 
-use crate::checking::rule_fault;
+use crate::checking::check_rule;
 use crate::faults::SetFault;
 use crate::scanning::scan;
 use crate::sets::RuleSet;
@@ -20,15 +20,8 @@ fn check(set: RuleSet) -> Result<(), SetFault>
         let Some(rule) = set.rule(i) else {
             return Ok(());
         };
-        match rule_fault(rule) {
-            Some(found) => {
-                return Err(SetFault {
-                    place: found.0,
-                    rule: i,
-                    cause: Cause::InRule(found.1),
-                });
-            }
-            None => {}
+        if let Err(found) = check_rule(rule) {
+            return Err(found.in_rule(i));
         }
     }
     Ok(())

@@ -1,6 +1,13 @@
 // Runs of words by their kind, as parts of the caller's slice.
-ghost use Rattle.std.specs.Prelude.{◌≡◌, ◌+◌, ◌≤◌, length};
-ghost use Rattle.rules.specs.Runs.{end_of, part_end};
+ghost use Rattle.std.specs.Prelude.{◌≡◌, ℕ, ◌+◌, ◌-◌, ◌*◌, ◌%◌, ◌≤◌, Bool, length, take, drop, slice_index};
+ghost use Rattle.std.specs.Range.{range_inclusive_start, range_inclusive_end};
+ghost use Rattle.words.specs.Words.{kind_number};
+ghost use Rattle.rules.specs.Runs.{within, end_of, part_end};
+ghost use Rattle.rules.specs.Marks.{passed, first_mark, marks_by};
+
+use crate::faults::PlacedFault;
+use std::ops::RangeInclusive;
+use words::{Kind, RuleFault, low_byte};
 
 // Some of the given words, and the place of the first.
 #[derive(Clone, Copy)]
@@ -9,21 +16,57 @@ pub struct Run<'a> {
     pub words: &'a [u32],
 }
 
-// Where the run of words of the kinds from `low` to `high` that begins at `from` ends.
-pub fn run_end(words: &[u32], from: usize, low: u32, high: u32) -> usize
+impl<'a> Run<'a> {
+    // Refuses the first word that has the fault, as the test says of a word and its number in the run.
+    pub fn check_words<F: Fn(usize, u32) -> bool>(
+        self,
+        has_fault: F,
+        fault: RuleFault,
+    ) -> Result<(), PlacedFault>
+        requires { F.IsAlwaysCallable has_fault }
+        ensures { (t : ℕ → ℕ → Bool) → ((at w : ℕ) (b : Bool) → F.post has_fault at w b → b ≡ t at w) → self.entry.place + length self.entry.words.now ≤ 1024 → result ≡ passed (first_mark self.entry.place (marks_by t fault 0 self.entry.words.now)) }
+    {
+        let found = self
+            .words
+            .iter()
+            .enumerate()
+            .position(|(at, word)| has_fault(at, *word));
+        match found {
+            Some(at) => Err(PlacedFault {
+                place: self.place.saturating_add(at),
+                fault,
+            }),
+            None => Ok(()),
+        }
+    }
+}
+
+// The number that the first word of a rule or a ban says.
+pub fn first_number(words: &[u32]) -> u32
+    ensures { result ≡ slice_index words.now 0 % 256 }
+{
+    words.first().map_or(0, |word| low_byte(*word))
+}
+
+// Is the word of one of the kinds?
+pub fn is_of(word: u32, kinds: &RangeInclusive<Kind>) -> bool
+    ensures { result ≡ within (kind_number (range_inclusive_start kinds.now)) (kind_number (range_inclusive_end kinds.now)) word }
+{
+    let number = word >> 28;
+    kinds.start().number() <= number && number <= kinds.end().number()
+}
+
+// Where the run of words of these kinds that begins at `from` ends.
+pub fn run_end(words: &[u32], from: usize, kinds: RangeInclusive<Kind>) -> usize
     requires { from ≤ length words.now }
-    ensures end { result ≡ end_of low high words.now from }
+    ensures end { result ≡ end_of (kind_number (range_inclusive_start kinds)) (kind_number (range_inclusive_end kinds)) words.now from }
     ensures within { (from ≤ result) × (result ≤ length words.now) }
 {
-    let mut at = from;
-    while at < words.len() {
-        let kind = words[at] >> 28;
-        if kind < low || high < kind {
-            return at;
-        }
-        at += 1;
-    }
-    at
+    let run = words[from..]
+        .iter()
+        .take_while(|word| is_of(**word, &kinds))
+        .count();
+    from + run
 }
 
 // Where the part of a rule that begins at `at` ends: `at` itself where none begins.
@@ -35,14 +78,18 @@ pub fn part_end(words: &[u32], at: usize) -> usize
     if at == words.len() {
         return at;
     }
-    match words[at] >> 28 {
-        2 | 3 => run_end(words, at, 2, 3),
-        4 => {
-            let links = run_end(words, at + 1, 5, 5);
-            run_end(words, links, 2, 3)
+    match Kind::of(words[at]) {
+        Some(Kind::LinkToVariable | Kind::LinkToMark) => {
+            run_end(words, at, Kind::LinkToVariable..=Kind::LinkToMark)
         }
-        6 | 7 => run_end(words, at, 6, 7),
-        8 => run_end(words, at + 1, 2, 3),
+        Some(Kind::Bans) => {
+            let links = run_end(words, at + 1, Kind::Shares..=Kind::Shares);
+            run_end(words, links, Kind::LinkToVariable..=Kind::LinkToMark)
+        }
+        Some(Kind::StrikesNeed | Kind::StrikesThing) => {
+            run_end(words, at, Kind::StrikesNeed..=Kind::StrikesThing)
+        }
+        Some(Kind::Makes) => run_end(words, at + 1, Kind::LinkToVariable..=Kind::LinkToMark),
         _ => at,
     }
 }

@@ -5,16 +5,16 @@ ghost use Rattle.rules.specs.Rules.{scanned};
 ghost use Rattle.rules.specs.Scan.{counted};
 
 use crate::faults::SetFault;
-use words::{Cause, RuleFault, Stage, start, step};
+use words::{Cause, RuleFault, Stage, State};
 
 pub fn scan(words: &[u32]) -> Result<usize, SetFault>
     requires { length words.now ≤ 1024 }
     ensures { result ≡ counted (scanned words.now) }
 {
-    let mut state = start();
-    for at in 0..words.len() {
+    let mut state = State::start();
+    for (at, word) in words.iter().enumerate() {
         let repeats = repeated(words, at, state.seen);
-        match step(state, words[at], repeats) {
+        match state.step(*word, repeats) {
             Ok(next) => {
                 state = next;
             }
@@ -42,17 +42,5 @@ fn repeated(words: &[u32], at: usize, seen: usize) -> bool
     requires { (at < length words.now) × (seen ≤ at) }
     ensures { result ≡ has (slice_index words.now at) (take seen (drop (at - seen) words.now)) }
 {
-    let word = words[at];
-    is_among(word, &words[at - seen..at])
-}
-
-pub fn is_among(word: u32, words: &[u32]) -> bool
-    ensures { result ≡ has word words.now }
-{
-    for w in words {
-        if *w == word {
-            return true;
-        }
-    }
-    false
+    words[at - seen..at].contains(&words[at])
 }

@@ -9,6 +9,7 @@ ghost use Rattle.rules.specs.Sets.{SetHere, RuleStart};
 
 use crate::parts::RuleRun;
 use crate::runs::run_end;
+use words::Kind;
 
 // The words of a rule set, and how many rules they say.
 #[derive(Clone, Copy)]
@@ -34,13 +35,13 @@ impl<'a> RuleSet<'a> {
     }
 }
 
-// Where the rule that begins at `at` ends: after the next word of kind 9.
+// Where the rule that begins at `at` ends: after the next word that ends one.
 fn rule_end(words: &[u32], at: usize) -> usize
     requires { at ≤ length words.now }
     ensures end { result ≡ rule_end words.now at }
     ensures within { (at ≤ result) × (result ≤ length words.now) }
 {
-    let last = run_end(words, at, 1, 8);
+    let last = run_end(words, at, Kind::Opens..=Kind::Makes);
     if last < words.len() { last + 1 } else { last }
 }
 

@@ -1,9 +1,11 @@
 -- One step of the reading, over numbers.
-use Rattle.std.specs.Prelude.{ℕ, ◌+◌, ◌^◌, ◌<◌, ◌≤◌, Bool, true, false, cond, ◌&&◌, ◌||◌, List, [], ◌∷◌, Ok, Err, Result, ◌==◌, nat_le, nat_lt, slice_index_or}
+use Rattle.std.specs.Prelude.{ℕ, ◌+◌, ◌^◌, ◌<◌, ◌≤◌, Bool, true, false, cond, ◌&&◌, List, [], ◌∷◌, Ok, Err, Result, ◌==◌, nat_le, nat_lt, slice_index_or}
+use Rattle.std.specs.List.{list_any}
 use Rattle.words.specs.declared.items.PatternLink.{PatternLink}
 use Rattle.words.specs.declared.items.Target.{Target}
 use Rattle.words.specs.declared.items.Target.TheVariants.{Variable, Mark}
 use Rattle.words.specs.declared.items.Share.{Share}
+use Rattle.words.specs.declared.items.Share.TheVariants.{New, With, Neither}
 use Rattle.words.specs.declared.items.Item.{Item}
 use Rattle.words.specs.declared.items.Item.TheVariants.{Opens, Link, Bans, Shares, StrikesNeed, StrikesThing, Makes, Ends}
 use Rattle.words.specs.declared.faults.WordFault.{WordFault}
@@ -111,7 +113,9 @@ link_in limit l = nat_lt l.label 16 && (nat_lt l.source limit && target_in limit
 
 -- a new ban variable, or one shared with a rule variable below n
 abbrev pub share_in : ℕ → Share → Bool
-share_in n x = cond (x.shared == 0) (x.variable == 0) (x.shared == 1 && nat_lt x.variable n)
+share_in n New = true
+share_in n (With v) = nat_lt v n
+share_in n (Neither m) = false
 
 -- the item's values are in range
 abbrev pub in_range : State → Item → Bool
@@ -223,8 +227,7 @@ next_of s Ends = record { stage = Outside; rules = s.rules + 1; variables = 0; n
 
 -- the number is in the list
 abbrev pub has : ℕ → List ℕ → Bool
-has x [] = false
-has x (y ∷ ys) = y == x || has x ys
+has x ys = list_any (λ y. y == x) ys
 
 -- a word fault is a rule fault
 abbrev pub worded : Result Item WordFault → Result Item RuleFault

@@ -1,26 +1,40 @@
 // The faults of a reading, by the layer that finds them: a word's, a rule's and a set's, each carried whole into the next.
-ghost use Rattle.std.specs.Prelude.{◌≡◌};
+ghost use Rattle.std.specs.Prelude.{◌≡◌, Some};
 ghost use Rattle.words.specs.Numbers.{number, layer, place_in_table};
+ghost use Rattle.words.specs.Texts.{layer_text};
 ghost use Rattle.words.specs.declared.faults.RuleFault.TheVariants.{Word as OfWord};
 ghost use Rattle.words.specs.declared.faults.Cause.TheVariants.{InRule};
 
 use crate::tables::FAULTS;
+use std::fmt;
 
 // The layer that found a fault.
-#[derive(Clone, Copy, PartialEq, Eq, Debug)]
+#[derive(Clone, Copy, Debug, PartialEq, Eq)]
 pub enum Layer {
     Word,
     Rule,
     Set,
 }
 
+impl fmt::Display for Layer {
+    ghost output = { λ layer. Some (layer_text layer) };
+
+    fn fmt<W: fmt::Write>(&self, f: &mut fmt::Formatter<W>) -> fmt::Result {
+        f.write_str(match *self {
+            Layer::Word => "word",
+            Layer::Rule => "rule",
+            Layer::Set => "set",
+        })
+    }
+}
+
 // A word with a kind outside 1 to 9, or with a stray bit.
-#[derive(Clone, Copy)]
+#[derive(Clone, Copy, Debug, PartialEq, Eq)]
 pub struct WordFault {
     pub word: u32,
 }
 
-#[derive(Clone, Copy)]
+#[derive(Clone, Copy, Debug, PartialEq, Eq)]
 pub enum RuleFault {
     Word(WordFault),
     OutOfPlace,
@@ -35,7 +49,7 @@ pub enum RuleFault {
 }
 
 // Why a set is refused.
-#[derive(Clone, Copy)]
+#[derive(Clone, Copy, Debug, PartialEq, Eq)]
 pub enum Cause {
     InRule(RuleFault),
     TooManyRules,

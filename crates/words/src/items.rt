@@ -1,33 +1,74 @@
 // One word: its kind in bits 31 to 28, and its fields.
 ghost use Rattle.std.specs.Prelude.{◌≡◌, ◌%◌};
-ghost use Rattle.words.specs.Words.{item_of, link_of, share_of};
+ghost use Rattle.words.specs.Words.{kind_number, kind_of, item_of, link_of, share_of};
 
 use crate::faults::WordFault;
 
+// What a word is, by the number in its bits 31 to 28.
+#[derive(Clone, Copy, Debug, PartialEq, Eq)]
+pub enum Kind {
+    Opens = 1,
+    LinkToVariable = 2,
+    LinkToMark = 3,
+    Bans = 4,
+    Shares = 5,
+    StrikesNeed = 6,
+    StrikesThing = 7,
+    Makes = 8,
+    Ends = 9,
+}
+
+impl Kind {
+    // The kind of a word, none where its number is outside 1 to 9.
+    pub fn of(word: u32) -> Option<Kind>
+        ensures { result ≡ kind_of word }
+    {
+        match word >> 28 {
+            1 => Some(Kind::Opens),
+            2 => Some(Kind::LinkToVariable),
+            3 => Some(Kind::LinkToMark),
+            4 => Some(Kind::Bans),
+            5 => Some(Kind::Shares),
+            6 => Some(Kind::StrikesNeed),
+            7 => Some(Kind::StrikesThing),
+            8 => Some(Kind::Makes),
+            9 => Some(Kind::Ends),
+            _ => None,
+        }
+    }
+
+    pub fn number(self) -> u32
+        ensures { result ≡ kind_number self }
+    {
+        self as u32
+    }
+}
+
 // The far end of a link of a pattern.
-#[derive(Clone, Copy)]
+#[derive(Clone, Copy, Debug, PartialEq, Eq)]
 pub enum Target {
     Variable(u32),
     Mark(u32),
 }
 
 // A link of a pattern or of the makes, from a variable.
-#[derive(Clone, Copy)]
+#[derive(Clone, Copy, Debug, PartialEq, Eq)]
 pub struct PatternLink {
     pub label: u32,
     pub source: u32,
     pub target: Target,
 }
 
-// A variable of a ban: `shared` is 1 where it is the rule's `variable`, 0 where it is new.
-#[derive(Clone, Copy)]
-pub struct Share {
-    pub shared: u32,
-    pub variable: u32,
+// A variable of a ban: new, or the rule's variable of that number. Any other two bytes say neither, and are kept.
+#[derive(Clone, Copy, Debug, PartialEq, Eq)]
+pub enum Share {
+    New,
+    With(u32),
+    Neither(u32),
 }
 
 // What a word says.
-#[derive(Clone, Copy)]
+#[derive(Clone, Copy, Debug, PartialEq, Eq)]
 pub enum Item {
     Opens(u32),
     Link(PatternLink),
@@ -39,63 +80,58 @@ pub enum Item {
     Ends,
 }
 
-pub fn read_word(word: u32) -> Result<Item, WordFault>
-    ensures { result ≡ item_of word }
-{
-    let kind = word >> 28;
-    let rest = word % 268435456;
-    let label = rest / 65536;
-    let middle = rest / 256 % 256;
-    let low = rest % 256;
-    match kind {
-        1 if rest < 256 => Ok(Item::Opens(low)),
-        2 if rest < 16777216 => Ok(Item::Link(PatternLink {
-            label,
-            source: middle,
-            target: Target::Variable(low),
-        })),
-        3 if rest < 16777216 => Ok(Item::Link(PatternLink {
-            label,
-            source: middle,
-            target: Target::Mark(low),
-        })),
-        4 if rest < 256 => Ok(Item::Bans(low)),
-        5 if rest < 65536 => Ok(Item::Shares(Share {
-            shared: middle,
-            variable: low,
-        })),
-        6 if rest < 256 => Ok(Item::StrikesNeed(low)),
-        7 if rest < 256 => Ok(Item::StrikesThing(low)),
-        8 if rest < 256 => Ok(Item::Makes(low)),
-        9 if rest < 1 => Ok(Item::Ends),
-        _ => Err(WordFault { word }),
+impl TryFrom<u32> for Item {
+    type Error = WordFault;
+
+    ghost try_from_gives = { λ word r. r ≡ item_of word };
+
+    fn try_from(word: u32) -> Result<Item, WordFault> {
+        let rest = word % 268435456;
+        let low = low_byte(word);
+        match Kind::of(word) {
+            Some(Kind::Opens) if rest < 256 => Ok(Item::Opens(low)),
+            Some(Kind::LinkToVariable | Kind::LinkToMark) if rest < 16777216 => {
+                Ok(Item::Link(PatternLink::from(word)))
+            }
+            Some(Kind::Bans) if rest < 256 => Ok(Item::Bans(low)),
+            Some(Kind::Shares) if rest < 65536 => Ok(Item::Shares(Share::from(word))),
+            Some(Kind::StrikesNeed) if rest < 256 => Ok(Item::StrikesNeed(low)),
+            Some(Kind::StrikesThing) if rest < 256 => Ok(Item::StrikesThing(low)),
+            Some(Kind::Makes) if rest < 256 => Ok(Item::Makes(low)),
+            Some(Kind::Ends) if rest < 1 => Ok(Item::Ends),
+            _ => Err(WordFault { word }),
+        }
     }
 }
 
-// The link that a word of kind 2 or 3 says; of any other word its fields, read alike.
-pub fn link_of(word: u32) -> PatternLink
-    ensures { result ≡ link_of word }
-{
-    let low = word % 256;
-    let target = if word >> 28 == 3 {
-        Target::Mark(low)
-    } else {
-        Target::Variable(low)
-    };
-    PatternLink {
-        label: word / 65536 % 256,
-        source: word / 256 % 256,
-        target,
+// The link that a word of a link's kind says; of any other word its fields, read alike.
+impl From<u32> for PatternLink {
+    ghost from_gives = { λ word link. link ≡ link_of word };
+
+    fn from(word: u32) -> PatternLink {
+        let low = low_byte(word);
+        let target = match Kind::of(word) {
+            Some(Kind::LinkToMark) => Target::Mark(low),
+            _ => Target::Variable(low),
+        };
+        PatternLink {
+            label: word / 65536 % 256,
+            source: word / 256 % 256,
+            target,
+        }
     }
 }
 
-// The ban variable that a word of kind 5 says; of any other word its fields, read alike.
-pub fn share_of(word: u32) -> Share
-    ensures { result ≡ share_of word }
-{
-    Share {
-        shared: word / 256 % 256,
-        variable: word % 256,
+// The ban variable that a word of its kind says; of any other word its fields, read alike.
+impl From<u32> for Share {
+    ghost from_gives = { λ word share. share ≡ share_of word };
+
+    fn from(word: u32) -> Share {
+        match (word / 256 % 256, low_byte(word)) {
+            (0, 0) => Share::New,
+            (1, variable) => Share::With(variable),
+            _ => Share::Neither(word % 65536),
+        }
     }
 }
 

@@ -8,6 +8,6 @@ mod steps;
 mod tables;
 
 pub use faults::{Cause, Layer, RuleFault, WordFault};
-pub use items::{Item, PatternLink, Share, Target, link_of, low_byte, read_word, share_of};
+pub use items::{Item, Kind, PatternLink, Share, Target, low_byte};
 pub use stages::Stage;
-pub use steps::{State, start, step};
+pub use steps::State;

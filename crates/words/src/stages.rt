@@ -5,7 +5,7 @@ ghost use Rattle.words.specs.Steps.{may};
 use crate::items::Item;
 use crate::tables::MAY;
 
-#[derive(Clone, Copy)]
+#[derive(Clone, Copy, Debug, PartialEq, Eq)]
 pub enum Stage {
     Outside,
     Opened,

@@ -1,28 +1,20 @@
-use Rattle.std.proofs.Common.{◌≡◌, ◌/◌, ◌^◌, true, false, ◌&&◌, leb, get_or, arith, rules}
-use Rattle.std.proofs.lemmas.List.{at_drop_all}
-use Rattle.std.proofs.lemmas.Bool.Decides.{nat_tests}
-use Rattle.rules.specs.Runs.{span}
-use Rattle.rules.proofs.Spans.{span_stop, span_on}
+use Rattle.std.proofs.Common.{◌+◌, ◌-◌, length, take, drop, ap, ◌∙◌, rules, tests}
+use Rattle.std.specs.Range.{range_inclusive_start, range_inclusive_end}
+use Rattle.std.specs.List.{prefix_len}
+use Rattle.std.proofs.lemmas.List.{take_rest}
+use Rattle.std.proofs.lemmas.Iterator.{YieldsList-from_slice}
+use Rattle.std.proofs.lemmas.Iterator.Search.{YieldsList-from_take_while}
+use Rattle.std.proofs.lemmas.Iterator.Consumers.{count_from_yields_List}
+use Rattle.std.proofs.lemmas.List.Folds.{length-prefix_len}
+use Rattle.words.specs.Words.{kind_number}
+use Rattle.rules.specs.Runs.{within}
 use Rattle.rules.proofs.runs.run_end.Goals as goal
 
-pub returns-then-kind-low : goal.returns-then-kind-low
-returns-then-kind-low c =
-    let w = get_or c.args.words.now c.loop-at.at 0 in
-    let b : (leb c.args.low (w / 2 ^ 28) && leb (w / 2 ^ 28) c.args.high) ≡ false = search (rules, nat_tests) in
-    let z = span_stop c.args.low c.args.high c.args.words.now c.loop-at.at c.loop-at-test.true b in
-    let i = c.loop-at.invariant.0 in
-    record { end = omega arith; within = (omega arith, omega arith) }
-
-pub loop-at-preserved : goal.loop-at-preserved
-loop-at-preserved c =
-    let w = get_or c.args.words.now c.loop-at.at 0 in
-    let b : (leb c.args.low (w / 2 ^ 28) && leb (w / 2 ^ 28) c.args.high) ≡ true = search (rules, nat_tests) in
-    let z = span_on c.args.low c.args.high c.args.words.now c.loop-at.at c.loop-at-test.true b in
-    let i = c.loop-at.invariant.0 in
-    (omega arith, omega arith, omega arith)
-
-pub returns : goal.returns
-returns c =
-    let z = at_drop_all (span c.args.low c.args.high) c.args.words.now c.loop-at.at c.loop-at-test.false in
-    let i = c.loop-at.invariant.0 in
-    record { end = omega arith; within = (omega arith, omega arith) }
+pub returns-clause-end : goal.returns-clause-end
+returns-clause-end c =
+    let t = within (kind_number (range_inclusive_start c.args.kinds)) (kind_number (range_inclusive_end c.args.kinds)) in
+    let ws = c.args.words.now in
+    let more = take (length ws - c.args.from) (drop c.args.from ws) in
+    ap (λ n. c.args.from + n)
+    (count_from_yields_List _ _ c.count-run.ensures.ran (YieldsList-from_take_while _ t (YieldsList-from_slice more (search rules)) c.take_while.ensures.closure c.take_while.ensures.done (λ x b q k. search (rules, tests)))
+    ∙ length-prefix_len t more ∙ ap (prefix_len t) (take_rest ws c.args.from))

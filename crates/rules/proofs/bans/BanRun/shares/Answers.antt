@@ -1,8 +1,9 @@
+use Rattle.rules.proofs.KindNumbers.{end_by}
 use Rattle.rules.proofs.BanRuns.{shares_found, shares_place, shares_read}
 use Rattle.rules.proofs.bans.BanRun.shares.Goals as goal
 
 pub returns : goal.returns
 returns c =
     λ n b h.
-    let w = shares_found c.args.self.place c.args.self.words.now n b h c.min-from.result c.run_end-end.result c.min-from.ensures c.run_end-end.ensures.end in
-    ((shares_place c.args.self.place c.args.self.words.now n b h c.min-from.result c.run_end-end.result c.min-from.ensures c.run_end-end.ensures.end c.saturating_add.result c.saturating_add.ensures, w), shares_read c.args.self.place c.args.self.words.now n b h _ w)
+    let w = shares_found c.args.self.place c.args.self.words.now n b h c.min-from.result c.run_end-end.result c.min-from.ensures (end_by c.new.result c.min-from.result c.args.self.words.now c.new.ensures.start c.new.ensures.end c.run_end-end.ensures.end) in
+    ((shares_place c.args.self.place c.args.self.words.now n b h c.min-from.result c.run_end-end.result c.min-from.ensures (end_by c.new.result c.min-from.result c.args.self.words.now c.new.ensures.start c.new.ensures.end c.run_end-end.ensures.end) c.saturating_add.result c.saturating_add.ensures, w), shares_read c.args.self.place c.args.self.words.now n b h _ w)

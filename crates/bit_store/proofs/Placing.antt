@@ -74,9 +74,6 @@ pub target_below : (t s b x : ℕ) → x ≤ place t (link_of s b x)
 unfolding place
 target_below t s b x = omega arith
 
-pub target_small : (t s b x : ℕ) → inside t (link_of s b x) ≡ true → x < 64 + t
-target_small t s b x h = (sized t (link_of s b x) h).target
-
 pub run_below : (t s b x : ℕ) → inside t (link_of s b x) ≡ true → place t (link_of s b x) + 64 + t ≤ places t + x
 run_below t s b x h =
     let z = sized t (link_of s b x) h in

@@ -3,9 +3,9 @@ ghost use Rattle.bit_store.specs.Places.{LeastBelow, bit_on};
 
 // The first place from `from` on and below `end` whose bit is on, by whole words.
 pub(crate) fn next_bit(words: &[u32], from: usize, end: usize) -> Option<usize>
-    requires some { from < end }
+    requires start { from < 32 * length words.now }
     requires within { end ≤ 32 * length words.now }
-    requires few { end ≤ 3670016 }
+    requires few { (from ≤ 3670016) × (end ≤ 3670016) }
     ensures { LeastBelow (bit_on words.now) from end result }
 {
     let rest = words[from / 32] >> (from % 32);
@@ -18,6 +18,7 @@ pub(crate) fn next_bit(words: &[u32], from: usize, end: usize) -> Option<usize>
     (found < end).then_some(found)
 }
 
+// The word with a bit on.
 pub(crate) fn with_bit(word: u32, bit: usize) -> u32
     requires { bit < 32 }
     ensures here { result / 2 ^ bit % 2 ≡ 1 }

@@ -33,6 +33,7 @@ impl<'a> BitStore<'a> {
         let nodes = 64 + self.sizes.things();
         Some(row as usize * nodes as usize + link.target as usize)
     }
+
     // Whether the bit at a place is on.
     fn is_bit_on(&self, place: usize) -> bool
         requires { place < places self.now.sizes.things }

@@ -147,82 +147,75 @@ fn asking(rt: HostRuntime) {
     );
 }
 
-fn list_at(rt: &impl Abort, heap: Global, things: u32) -> Result<(), Fail> {
-    let Ok(sizes) = ListStore::ask(things, 8, 8) else {
+// Takes the steps with a list store, over memory that held one link throughout.
+// Stays: a store borrows its memory, so one maker of both stores would want an associated type with a lifetime.
+fn on_list<F: FnOnce(&mut ListStore)>(
+    heap: Global,
+    things: u32,
+    limit: usize,
+    held: Link,
+    steps: F,
+) -> Result<(), Fail>
+    requires { F.IsAlwaysCallable steps }
+{
+    let Ok(sizes) = ListStore::ask(things, limit, limit) else {
         return Err(Fail::new("refused"));
     };
-    let mut memory = vec![in heap; link(64, 0, 1); 8]?;
-    let slots = memory.as_mut_slice();
-    if slots.len() < sizes.limit() {
-        return Err(Fail::new("memory"));
-    }
-    let mut store = ListStore::new(sizes, slots);
-    corners(rt, &mut store);
-    questions(rt, &store);
+    let mut memory = vec![in heap; held; limit]?;
+    steps(&mut ListStore::new(sizes, memory.as_mut_slice()));
+    Ok(())
+}
+
+// Takes the steps with a bit store, over memory whose bits were all on.
+fn on_bits<F: FnOnce(&mut BitStore)>(
+    heap: Global,
+    things: u32,
+    limit: usize,
+    steps: F,
+) -> Result<(), Fail>
+    requires { F.IsAlwaysCallable steps }
+{
+    let Ok(sizes) = BitStore::ask(things, limit, 114688) else {
+        return Err(Fail::new("refused"));
+    };
+    let mut memory = vec![in heap; u32::MAX; BitStore::words_needed(sizes)]?;
+    steps(&mut BitStore::new(sizes, memory.as_mut_slice()));
     Ok(())
 }
 
 #[test]
 fn list_corners(rt: HostRuntime) -> Result<(), Fail> {
-    list_at(&rt, rt.alloc(), 1)?;
-    list_at(&rt, rt.alloc(), 448)
-}
-
-fn bits_at(rt: &impl Abort, heap: Global, things: u32) -> Result<(), Fail> {
-    let Ok(sizes) = BitStore::ask(things, 8, 114688) else {
-        return Err(Fail::new("refused"));
-    };
-    let needed = BitStore::words_needed(sizes);
-    let mut memory = vec![in heap; u32::MAX; needed]?;
-    let words = memory.as_mut_slice();
-    if words.len() < needed {
-        return Err(Fail::new("memory"));
+    for things in [1, 448] {
+        on_list(rt.alloc(), things, 8, link(64, 0, 1), |store| {
+            corners(&rt, store);
+            questions(&rt, store);
+        })?;
     }
-    let mut store = BitStore::new(sizes, words);
-    corners(rt, &mut store);
-    questions(rt, &store);
     Ok(())
 }
 
 #[test]
 fn bits_corners(rt: HostRuntime) -> Result<(), Fail> {
-    bits_at(&rt, rt.alloc(), 1)?;
-    bits_at(&rt, rt.alloc(), 448)
-}
-
-fn list_full(rt: &impl Abort, heap: Global, limit: usize) -> Result<(), Fail> {
-    let Ok(sizes) = ListStore::ask(448, limit, limit) else {
-        return Err(Fail::new("refused"));
-    };
-    let mut memory = vec![in heap; link(64, 0, 0); limit]?;
-    let slots = memory.as_mut_slice();
-    if slots.len() < sizes.limit() {
-        return Err(Fail::new("memory"));
+    for things in [1, 448] {
+        on_bits(rt.alloc(), things, 8, |store| {
+            corners(&rt, store);
+            questions(&rt, store);
+        })?;
     }
-    let mut store = ListStore::new(sizes, slots);
-    fill(rt, &mut store);
-    Ok(())
-}
-
-fn bits_full(rt: &impl Abort, heap: Global, limit: usize) -> Result<(), Fail> {
-    let Ok(sizes) = BitStore::ask(448, limit, 114688) else {
-        return Err(Fail::new("refused"));
-    };
-    let needed = BitStore::words_needed(sizes);
-    let mut memory = vec![in heap; u32::MAX; needed]?;
-    let words = memory.as_mut_slice();
-    if words.len() < needed {
-        return Err(Fail::new("memory"));
-    }
-    let mut store = BitStore::new(sizes, words);
-    fill(rt, &mut store);
     Ok(())
 }
 
 #[test]
 fn full(rt: HostRuntime) -> Result<(), Fail> {
-    list_full(&rt, rt.alloc(), 1)?;
-    bits_full(&rt, rt.alloc(), 1)?;
-    list_full(&rt, rt.alloc(), 4096)?;
-    bits_full(&rt, rt.alloc(), 4096)
+    for limit in [1, 4096] {
+        on_list(
+            rt.alloc(),
+            448,
+            limit,
+            link(64, 0, 0),
+            |store| fill(&rt, store),
+        )?;
+        on_bits(rt.alloc(), 448, limit, |store| fill(&rt, store))?;
+    }
+    Ok(())
 }

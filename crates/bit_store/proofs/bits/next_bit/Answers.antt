@@ -19,7 +19,7 @@ overflow_mul-found c =
     let ws = c.args.words.now in
     let h = first_from_Range _ _ _ c.find.result (λ k. 0 < get_or ws k 0) (λ k. get_or ws k 0 ≡ 0) c.find.ensures.ran (λ k q r. search (rules, tests)) (λ k q r. search (rules, tests)) in
     let found = rw c.in_ok-at.was at h in
-    omega (arith, found.1, c.requires.few)
+    omega (arith, found.1, c.requires.few.1)
 
 pub returns : goal.returns
 returns c =
@@ -43,4 +43,4 @@ overflow_add-found-else-rest-ne0 c =
     let found = rw c.in_ok-at.was at h in
     let some : 0 < get_or ws c.in_ok-at.at 0 = found.2 in
     let z = digit_inside (get_or ws c.in_ok-at.at 0) 32 (count_trailing_zeros 32 (get_or ws c.in_ok-at.at 0)) (omega arith) (lowest_trailing 32 (get_or ws c.in_ok-at.at 0) some (omega arith)).here in
-    omega (arith, z, found.1, c.requires.few)
+    omega (arith, z, found.1, c.requires.few.1)

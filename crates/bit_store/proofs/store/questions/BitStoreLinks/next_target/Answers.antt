@@ -1,5 +1,5 @@
 use Rattle.std.proofs.Common.{◌+◌, ◌-◌, rules, ap, arith}
-use Rattle.bit_store.proofs.Placing.{target_below, target_small, run_below}
+use Rattle.bit_store.proofs.Placing.{target_below, run_below}
 use Rattle.bit_store.proofs.Runs.{places_few, next_outside, next_run}
 use Rattle.bit_store.proofs.store.questions.BitStoreLinks.next_target.Goals as goal
 
@@ -20,8 +20,7 @@ next_bit-requires c =
     let t = target_below s.sizes.things c.args.source c.args.label c.args.from in
     let i = c.things.ensures.is in
     let p = placed.1 in
-    let m = target_small s.sizes.things c.args.source c.args.label c.args.from placed.0 in
-    record { some = omega arith; within = omega (arith, s.long); few = omega arith }
+    record { start = omega (arith, s.long, placed.2); within = omega (arith, s.long); few = (omega (arith, placed.2), omega arith) }
 
 pub returns : goal.returns
 returns c =

@@ -16,7 +16,8 @@ without_bit-requires-clause-set c = digit_on c.args.self.now.words.now c.in_ok-p
 pub overflow_sub-self : goal.overflow_sub-self
 overflow_sub-self c =
     let placed = rw c.in_ok-place.ensures.ok_part at c.place_of.ensures in
-    off_some c.args.self.now _ _ placed.0 placed.1 (sym c.if-not-is_bit_on.ensures)
+    let some = off_some c.args.self.now _ _ placed.0 placed.1 (sym c.if-not-is_bit_on.ensures) in
+    omega arith
 
 pub invariant_of-self : goal.invariant_of-self
 invariant_of-self c =

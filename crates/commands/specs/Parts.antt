@@ -4,17 +4,12 @@ use Rattle.std.specs.Option.{option_map}
 use Rattle.links.specs.declared.link.Link.{Link}
 use Rattle.links.specs.Sets.{link_of}
 use Rattle.std.specs.List.{prefix_len}
-use Rattle.commands.specs.declared.words.Numbered.{Numbered}
 use Rattle.commands.specs.Words.{dashless, decimal}
 
 -- what comes of a value, if there is one
 abbrev pub and_then : {X Y : Type 0} → Option X → (X → Option Y) → Option Y
 and_then None f = None
 and_then (Some x) f = f x
-
--- the number and the bytes behind it
-abbrev pub number_parts : Numbered → ℕ × List ℕ
-number_parts d = (d.number, d.rest.now)
 
 -- the number before the first dash, and what follows the dash; none where either is missing
 abbrev pub before_dash : List ℕ → Option (ℕ × List ℕ)

@@ -1,9 +1,9 @@
-ghost use Rattle.std.specs.Prelude.{◌≡◌, ℕ, Bool, ◌<◌, ◌≤◌, length, IfSome};
+ghost use Rattle.std.specs.Prelude.{◌≡◌, ℕ, Bool, ◌<◌, ◌≤◌, ◌==◌, length, position, IfSome};
 ghost use Rattle.std.specs.Option.{option_map};
 ghost use Rattle.std.specs.Iterator.{at_most};
 ghost use Rattle.std.specs.List.{prefix_len};
 ghost use Rattle.commands.specs.Words.{after_word, blank, decimal, digit, first_word, hex_digit, hex_word, is_passed, next_word, with_digit, with_hex_digit};
-ghost use Rattle.commands.specs.Parts.{before_dash, number_parts, link_from};
+ghost use Rattle.commands.specs.Parts.{before_dash, link_from};
 
 use links::Link;
 
@@ -79,32 +79,32 @@ pub fn parse_word(word: &[u8]) -> Option<u32>
     word.iter().try_fold(0, |value, byte| with_hex_digit(value, *byte))
 }
 
-// A number, and what follows it.
-#[derive(Clone, Copy)]
-pub struct Numbered<'a> {
-    pub number: u32,
-    pub rest: &'a [u8],
+fn first_dash(text: &[u8]) -> Option<usize>
+    ensures { result ≡ position (λ b. b == 45) text.now }
+{
+    text.iter().position(|byte| *byte == b'-')
 }
 
 // The number before the first dash, and what follows the dash.
-fn number_before_dash(text: &[u8]) -> Option<Numbered<'_>>
-    ensures { option_map number_parts result ≡ before_dash text.now }
+#[tactic(auto, using(crate::proofs::Dashes::without, crate::proofs::Dashes::dashed))]
+fn number_before_dash(text: &[u8]) -> Option<(u32, &[u8])>
+    ensures { option_map (λ p. (p.0, p.1.now)) result ≡ before_dash text.now }
 {
-    let end = text.iter().position(|byte| *byte == b'-')?;
-    let number = parse_number(&text[..end])?;
-    Some(Numbered { number, rest: &text[end + 1..] })
+    let dash = first_dash(text)?;
+    let number = parse_number(&text[..dash])?;
+    Some((number, &text[dash + 1..]))
 }
 
 // A link: three numbers joined by dashes.
 pub fn parse_link(word: &[u8]) -> Option<Link>
     ensures { result ≡ link_from word.now }
 {
-    let source = number_before_dash(word)?;
-    let label = number_before_dash(source.rest)?;
-    let target = parse_number(label.rest)?;
+    let (source, rest) = number_before_dash(word)?;
+    let (label, rest) = number_before_dash(rest)?;
+    let target = parse_number(rest)?;
     Some(Link {
-        source: source.number,
-        label: label.number,
+        source,
+        label,
         target,
     })
 }

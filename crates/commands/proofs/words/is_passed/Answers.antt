@@ -1,14 +1,14 @@
-use Rattle.std.proofs.Common.{rules, tests, ◌∙◌, arith}
+use Rattle.std.proofs.Common.{rules, tests, ◌≡◌, ℕ, ◌≤◌, ◌<◌, Bool, true, false, eqb, List, length, get_or, ◌∙◌, arith}
 use Rattle.std.proofs.lemmas.Grind.{common_steps}
 use Rattle.std.proofs.lemmas.Iterator.{YieldsList-from_slice}
 use Rattle.std.proofs.lemmas.Iterator.Search.{all_from_yields_List}
-use Rattle.commands.specs.Words.{blank}
+use Rattle.std.specs.List.{prefix_len}
+use Rattle.commands.specs.Words.{blank, is_passed}
 use Rattle.commands.proofs.Runs.{whole_run}
 use Rattle.commands.proofs.words.is_passed.Goals as goal
-use Rattle.commands.proofs.words.is_passed.Goals.{in-35, in_default, in_default-2}
 
 pub returns-else-matches : goal.returns-else-matches
 returns-else-matches c =
     let bs = c.args.line.now in
-    let all = all_from_yields_List blank _ _ _ c.all.ensures.ran (YieldsList-from_slice bs cc) (λ x b q k. search (rules, tests)) in
-    all ∙ whole_run blank bs ∙ elim c.if-matches-2.branch [ in-35 w ↦ ? | in_default w ↦ ? | in_default-2 w ↦ ? ]
+    let all = all_from_yields_List blank _ _ _ c.all.ensures.ran (YieldsList-from_slice bs cc) (λ x b q k. search (rules, tests)) ∙ whole_run blank bs in
+    grind (arith, common_steps, all)

@@ -85,48 +85,29 @@ write_in bs = then (number_in bs) (λ n. then (end_of n.1) (λ _. Ok n.0))
 abbrev pub survey_in : List ℕ → Result Survey Missing
 survey_in bs = then (number_in bs) (λ n. then (memory_in n.1) (λ m. Ok (record { rule = n.0; room = m })))
 
--- what reads the words behind each first word that goes to the hub; those of a rule set are read later
-abbrev pub hub_calls : List (List ℕ × (List ℕ → Result HubCall Missing))
-hub_calls =
-    (codes "hub", λ bs. then (wanted_hub_in bs) (λ h. Ok (hub_call.Commission h)))
-    ∷ (codes "rules", λ bs. Ok hub_call.Rules)
-    ∷ (codes "write", λ bs. then (write_in bs) (λ n. Ok (hub_call.Write n)))
-    ∷ (codes "survey", λ bs. then (survey_in bs) (λ s. Ok (hub_call.Survey s)))
-    ∷ []
-
--- what reads the words behind each first word that asks something of the store
-abbrev pub calls : List (List ℕ × (List ℕ → Result Call Missing))
-calls =
-    (codes "on", λ bs. then (link_in bs) (λ l. Ok (call.On l)))
-    ∷ (codes "off", λ bs. then (link_in bs) (λ l. Ok (call.Off l)))
-    ∷ (codes "is", λ bs. then (link_in bs) (λ l. Ok (call.Is l)))
-    ∷ (codes "target", λ bs. then (question_in bs) (λ q. Ok (call.Target q)))
-    ∷ (codes "source", λ bs. then (question_in bs) (λ q. Ok (call.Source q)))
-    ∷ (codes "count", λ bs. then (end_of bs) (λ _. Ok call.Count))
-    ∷ (codes "spare", λ bs. then (end_of bs) (λ _. Ok call.Spare))
+-- what reads the words behind each first word; those of a rule set are read later
+abbrev pub readers : List (List ℕ × (List ℕ → Result Command Missing))
+readers =
+    (codes "store", λ bs. then (wanted_in bs) (λ w. Ok (Make w)))
+    ∷ (codes "settle", λ bs. then (end_of bs) (λ _. Ok Settle))
+    ∷ (codes "hub", λ bs. then (wanted_hub_in bs) (λ h. Ok (Hub (hub_call.Commission h))))
+    ∷ (codes "rules", λ bs. Ok (Hub hub_call.Rules))
+    ∷ (codes "write", λ bs. then (write_in bs) (λ n. Ok (Hub (hub_call.Write n))))
+    ∷ (codes "survey", λ bs. then (survey_in bs) (λ s. Ok (Hub (hub_call.Survey s))))
+    ∷ (codes "on", λ bs. then (link_in bs) (λ l. Ok (Use (call.On l))))
+    ∷ (codes "off", λ bs. then (link_in bs) (λ l. Ok (Use (call.Off l))))
+    ∷ (codes "is", λ bs. then (link_in bs) (λ l. Ok (Use (call.Is l))))
+    ∷ (codes "target", λ bs. then (question_in bs) (λ q. Ok (Use (call.Target q))))
+    ∷ (codes "source", λ bs. then (question_in bs) (λ q. Ok (Use (call.Source q))))
+    ∷ (codes "count", λ bs. then (end_of bs) (λ _. Ok (Use call.Count)))
+    ∷ (codes "spare", λ bs. then (end_of bs) (λ _. Ok (Use call.Spare)))
     ∷ []
 
 -- what the reader of a word reads, or that there is no such word
-abbrev pub call_in : Option (List ℕ → Result Call Missing) → List ℕ → Result Call Missing
-call_in None bs = Err missing.Command
-call_in (Some read) bs = read bs
-
-abbrev pub hub_call_in : Option (List ℕ → Result HubCall Missing) → List ℕ → Result (Option HubCall) Missing
-hub_call_in None bs = Ok None
-hub_call_in (Some read) bs = then (read bs) (λ c. Ok (Some c))
-
--- the command to the hub, if the word is one for it, else on the store in hand
-abbrev pub command_for : Option HubCall → List ℕ → List ℕ → Result Command Missing
-command_for (Some c) word bs = Ok (Hub c)
-command_for None word bs = then (call_in (named word calls) bs) (λ c. Ok (Use c))
-
--- the command of a first word and the words behind it
-abbrev pub command_in : List ℕ → List ℕ → Result Command Missing
-command_in word bs =
-    cond (bytes_eq word (codes "store"))
-    (then (wanted_in bs) (λ w. Ok (Make w)))
-    (cond (bytes_eq word (codes "settle")) (then (end_of bs) (λ _. Ok Settle)) (then (hub_call_in (named word hub_calls) bs) (λ c. command_for c word bs)))
+abbrev pub command_in : Option (List ℕ → Result Command Missing) → List ℕ → Result Command Missing
+command_in (Some read) bs = read bs
+command_in None bs = Err missing.Command
 
 -- the command that a line writes, or why it writes none
 abbrev pub command_of : List ℕ → Result Command Missing
-command_of bs = command_in (first_word bs) (after_word bs)
+command_of bs = command_in (named (first_word bs) readers) (after_word bs)

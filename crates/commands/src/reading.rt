@@ -1,7 +1,7 @@
 ghost use Rattle.std.specs.Prelude.{◌≡◌};
 ghost use Rattle.std.specs.Option.{ok_or};
 ghost use Rattle.commands.specs.declared.command.Missing.TheVariants as missing;
-ghost use Rattle.commands.specs.Commands.{call_in, calls, command_in, hub_call_in, hub_calls, named, command_of, end_of, kind_of, link_in, memory_in, number_in, question_in, store_in, survey_in, three_in, wanted_hub_in, wanted_in, with_rest, write_in};
+ghost use Rattle.commands.specs.Commands.{command_in, readers, named, command_of, end_of, kind_of, link_in, memory_in, number_in, question_in, store_in, survey_in, three_in, wanted_hub_in, wanted_in, with_rest, write_in};
 ghost use Rattle.commands.specs.Words.{after_word, first_word};
 
 use crate::command::{Call, Command, HubCall, Kind, Missing, Question, Survey, Wanted, WantedHub};
@@ -10,7 +10,8 @@ use links::Link;
 
 impl Words<'_> {
     fn number(&mut self) -> Result<u32, Missing>
-        ensures { with_rest self.new.text.now result ≡ number_in self.old.text.now }
+        ensures number { with_rest self.new.text.now result ≡ number_in self.old.text.now }
+        ensures rest { self.new.text.now ≡ after_word self.old.text.now }
     {
         self.next().and_then(parse_number).ok_or(Missing::Number)
     }
@@ -121,49 +122,26 @@ impl Words<'_> {
         })
     }
 
-    // What this word asks of the hub, if it is for the hub; the words of a rule set are read later.
-    #[tactic(auto, using(std::proofs::lemmas::Grind::common_steps, crate::proofs::Names::five, crate::proofs::Names::six))]
-    fn hub_call(self, name: &[u8]) -> Result<Option<HubCall>, Missing>
-        ensures { result ≡ hub_call_in (named name.now hub_calls) self.entry.text.now }
-    {
-        match name {
-            b"hub" => Ok(Some(HubCall::Commission(self.wanted_hub()?))),
-            b"rules" => Ok(Some(HubCall::Rules)),
-            b"write" => Ok(Some(HubCall::Write(self.room()?))),
-            b"survey" => Ok(Some(HubCall::Survey(self.survey()?))),
-            _ => Ok(None),
-        }
-    }
-
-    // What this word asks of the store.
-    #[tactic(auto, using(std::proofs::lemmas::Grind::common_steps, crate::proofs::Names::five, crate::proofs::Names::six))]
-    fn call(self, name: &[u8]) -> Result<Call, Missing>
-        ensures { result ≡ call_in (named name.now calls) self.entry.text.now }
-    {
-        match name {
-            b"on" => Ok(Call::On(self.link()?)),
-            b"off" => Ok(Call::Off(self.link()?)),
-            b"is" => Ok(Call::Is(self.link()?)),
-            b"target" => Ok(Call::Target(self.question()?)),
-            b"source" => Ok(Call::Source(self.question()?)),
-            b"count" => self.end().map(|()| Call::Count),
-            b"spare" => self.end().map(|()| Call::Spare),
-            _ => Err(Missing::Command),
-        }
-    }
-
     // What this word asks.
     #[tactic(auto, using(std::proofs::lemmas::Grind::common_steps, crate::proofs::Names::five, crate::proofs::Names::six))]
     fn command(self, name: &[u8]) -> Result<Command, Missing>
-        ensures { result ≡ command_in name.now self.entry.text.now }
+        ensures { result ≡ command_in (named name.now readers) self.entry.text.now }
     {
         match name {
             b"store" => Ok(Command::Make(self.wanted()?)),
             b"settle" => self.end().map(|()| Command::Settle),
-            _ => match self.hub_call(name)? {
-                Some(call) => Ok(Command::Hub(call)),
-                None => Ok(Command::Use(self.call(name)?)),
-            },
+            b"hub" => Ok(Command::Hub(HubCall::Commission(self.wanted_hub()?))),
+            b"rules" => Ok(Command::Hub(HubCall::Rules)),
+            b"write" => Ok(Command::Hub(HubCall::Write(self.room()?))),
+            b"survey" => Ok(Command::Hub(HubCall::Survey(self.survey()?))),
+            b"on" => Ok(Command::Use(Call::On(self.link()?))),
+            b"off" => Ok(Command::Use(Call::Off(self.link()?))),
+            b"is" => Ok(Command::Use(Call::Is(self.link()?))),
+            b"target" => Ok(Command::Use(Call::Target(self.question()?))),
+            b"source" => Ok(Command::Use(Call::Source(self.question()?))),
+            b"count" => self.end().map(|()| Command::Use(Call::Count)),
+            b"spare" => self.end().map(|()| Command::Use(Call::Spare)),
+            _ => Err(Missing::Command),
         }
     }
 }

@@ -1,6 +1,5 @@
 -- A word that is known byte by byte.
 use Rattle.std.proofs.Common.{◌≡◌, ℕ, true, eqb, ◌&&◌, Bool, List, [], ◌∷◌, length, get_or, bytes_eq, refl, arith}
-use Rattle.std.proofs.lemmas.Grind.{common_steps}
 
 more : (p a : ℕ) (t : Bool) → p ≡ a → t ≡ true → (eqb p a && t) ≡ true
 more p a t h e = grind arith

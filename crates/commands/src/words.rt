@@ -48,7 +48,8 @@ pub fn parse_number(word: &[u8]) -> Option<u32>
     if word.is_empty() {
         return None;
     }
-    word.iter().try_fold(0, |value, byte| with_digit(value, *byte))
+    word.iter()
+        .try_fold(0, |value, byte| with_digit(value, *byte))
 }
 
 fn hex_digit(byte: u8) -> Option<u32>
@@ -76,7 +77,8 @@ pub fn parse_word(word: &[u8]) -> Option<u32>
     if word.len() != 8 {
         return None;
     }
-    word.iter().try_fold(0, |value, byte| with_hex_digit(value, *byte))
+    word.iter()
+        .try_fold(0, |value, byte| with_hex_digit(value, *byte))
 }
 
 fn first_dash(text: &[u8]) -> Option<usize>
@@ -136,4 +138,3 @@ impl<'a> Iterator for Words<'a> {
         if word.is_empty() { None } else { Some(word) }
     }
 }
-

@@ -1,9 +1,8 @@
-use Rattle.std.proofs.Common.{rules, tests, ◌≡◌, ℕ, ◌≤◌, ◌<◌, Bool, true, false, eqb, List, length, get_or, ◌∙◌, arith}
+use Rattle.std.proofs.Common.{rules, tests, ◌∙◌, arith}
 use Rattle.std.proofs.lemmas.Grind.{common_steps}
 use Rattle.std.proofs.lemmas.Iterator.{YieldsList-from_slice}
 use Rattle.std.proofs.lemmas.Iterator.Search.{all_from_yields_List}
-use Rattle.std.specs.List.{prefix_len}
-use Rattle.commands.specs.Words.{blank, is_passed}
+use Rattle.commands.specs.Words.{blank}
 use Rattle.commands.proofs.Runs.{whole_run}
 use Rattle.commands.proofs.words.is_passed.Goals as goal
 

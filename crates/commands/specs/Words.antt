@@ -35,10 +35,6 @@ next_word bs = cond (length (first_word bs) == 0) None (Some (first_word bs))
 abbrev pub is_digit : ℕ → Bool
 is_digit b = nat_le 48 b && nat_le b 57
 
--- the value of a decimal digit
-abbrev pub digit : ℕ → Option ℕ
-digit b = cond (is_digit b) (Some (b - 48)) None
-
 -- the number that a digit behind one already read makes, if it stays below 2 ^ 32
 abbrev pub with_digit : ℕ → ℕ → Option ℕ
 with_digit v b = cond (is_digit b && nat_lt (v * 10 + (b - 48)) (2 ^ 32)) (Some (v * 10 + (b - 48))) None

@@ -1,7 +1,7 @@
 ghost use Rattle.std.specs.Prelude.{◌≡◌};
 ghost use Rattle.std.specs.Option.{ok_or};
 ghost use Rattle.commands.specs.declared.command.Missing.TheVariants as missing;
-ghost use Rattle.commands.specs.Commands.{command_in, readers, named, command_of, end_of, kind_of, link_in, memory_in, number_in, question_in, store_in, survey_in, three_in, wanted_hub_in, wanted_in, with_rest, write_in};
+ghost use Rattle.commands.specs.Commands.{command_in, command_of, end_of, kind_of, link_in, memory_in, named, number_in, question_in, readers, store_in, survey_in, three_in, wanted_hub_in, wanted_in, with_rest, write_in};
 ghost use Rattle.commands.specs.Words.{after_word, first_word};
 
 use crate::command::{Call, Command, HubCall, Kind, Missing, Question, Survey, Wanted, WantedHub};
@@ -16,7 +16,7 @@ impl Words<'_> {
         self.next().and_then(parse_number).ok_or(Missing::Number)
     }
 
-    // No word is left.
+    // Refuses a word that is left.
     fn end(mut self) -> Result<(), Missing>
         ensures { result ≡ end_of self.entry.text.now }
     {
@@ -93,6 +93,7 @@ impl Words<'_> {
         })
     }
 
+    // A wanted store, with a layer that holds changes where `held` stands first.
     fn wanted(self) -> Result<Wanted, Missing>
         ensures { result ≡ wanted_in self.entry.text.now }
     {
@@ -122,7 +123,7 @@ impl Words<'_> {
         })
     }
 
-    // What this word asks.
+    // The command of a first word, which this one is, and of the words behind it.
     #[tactic(auto, using(std::proofs::lemmas::Grind::common_steps, crate::proofs::Names::five, crate::proofs::Names::six))]
     fn command(self, name: &[u8]) -> Result<Command, Missing>
         ensures { result ≡ command_in (named name.now readers) self.entry.text.now }

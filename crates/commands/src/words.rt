@@ -2,7 +2,7 @@ ghost use Rattle.std.specs.Prelude.{◌≡◌, ℕ, Bool, ◌<◌, ◌≤◌, �
 ghost use Rattle.std.specs.Option.{option_map};
 ghost use Rattle.std.specs.Iterator.{at_most};
 ghost use Rattle.std.specs.List.{prefix_len};
-ghost use Rattle.commands.specs.Words.{after_word, blank, decimal, digit, first_word, hex_digit, hex_word, is_passed, next_word, with_digit, with_hex_digit};
+ghost use Rattle.commands.specs.Words.{after_word, blank, decimal, first_word, hex_digit, hex_word, is_passed, next_word, with_digit, with_hex_digit};
 ghost use Rattle.commands.specs.Parts.{before_dash, link_from};
 
 use links::Link;
@@ -24,24 +24,17 @@ pub fn run_len<F: Fn(u8) -> bool>(text: &[u8], passes: F) -> usize
         .unwrap_or(text.len())
 }
 
-// The value of a decimal digit.
-fn digit(byte: u8) -> Option<u32>
-    ensures { result ≡ digit byte }
-{
-    match byte {
-        b'0'..=b'9' => Some((byte - b'0') as u32),
-        _ => None,
-    }
-}
-
 // The number that a digit behind one already read makes.
 fn with_digit(value: u32, byte: u8) -> Option<u32>
     ensures { result ≡ with_digit value byte }
 {
-    value.checked_mul(10)?.checked_add(digit(byte)?)
+    value
+        .checked_mul(10)?
+        .checked_add((byte as char).to_digit(10)?)
 }
 
 // The number that the bytes write: one or more decimal digits, with a value below 2^32.
+// Stays: a line may be no UTF-8, and `str::parse` takes a leading `+`, which is no number here.
 pub fn parse_number(word: &[u8]) -> Option<u32>
     ensures { result ≡ decimal word.now }
 {
@@ -52,15 +45,15 @@ pub fn parse_number(word: &[u8]) -> Option<u32>
         .try_fold(0, |value, byte| with_digit(value, *byte))
 }
 
+// The value of a hexadecimal digit in upper case.
 fn hex_digit(byte: u8) -> Option<u32>
     ensures value { result ≡ hex_digit byte }
     ensures small { IfSome result (λ d. d < 16) }
 {
-    match byte {
-        b'0'..=b'9' => Some((byte - b'0') as u32),
-        b'A'..=b'F' => Some((byte - b'A') as u32 + 10),
-        _ => None,
+    if byte.is_ascii_lowercase() {
+        return None;
     }
+    (byte as char).to_digit(16)
 }
 
 // The number that a hexadecimal digit makes behind one already read.
@@ -71,6 +64,7 @@ fn with_hex_digit(value: u32, byte: u8) -> Option<u32>
 }
 
 // The word of 32 bits that the bytes write: 8 hexadecimal digits.
+// Stays: `u32::from_str_radix` takes a leading `+`, and digits in lower case, which are no word here.
 pub fn parse_word(word: &[u8]) -> Option<u32>
     ensures { result ≡ hex_word word.now }
 {

@@ -1,3 +1,5 @@
 pub mod Digits
 pub mod Dashes
+pub mod Names
+pub mod Runs
 pub mod Steps

@@ -3,23 +3,18 @@ use Rattle.std.specs.Prelude.{ℕ, ◌+◌, cond, List, length, take, drop, Some
 use Rattle.std.specs.Option.{option_map}
 use Rattle.links.specs.declared.link.Link.{Link}
 use Rattle.links.specs.Sets.{link_of}
-use Rattle.commands.specs.declared.words.Class.TheVariants.{NonDash}
-use Rattle.commands.specs.declared.words.Numbered.{Numbered}
-use Rattle.commands.specs.Words.{decimal, run}
+use Rattle.std.specs.List.{prefix_len}
+use Rattle.commands.specs.Words.{dashless, decimal}
 
 -- what comes of a value, if there is one
 abbrev pub and_then : {X Y : Type 0} → Option X → (X → Option Y) → Option Y
 and_then None f = None
 and_then (Some x) f = f x
 
--- the number and the bytes behind it
-abbrev pub number_parts : Numbered → ℕ × List ℕ
-number_parts d = (d.number, d.rest.now)
-
 -- the number before the first dash, and what follows the dash; none where either is missing
 abbrev pub before_dash : List ℕ → Option (ℕ × List ℕ)
 before_dash bs =
-    cond (run NonDash bs == length bs) None (option_map (λ n. (n, drop (run NonDash bs + 1) bs)) (decimal (take (run NonDash bs) bs)))
+    cond (prefix_len dashless bs == length bs) None (option_map (λ n. (n, drop (prefix_len dashless bs + 1) bs)) (decimal (take (prefix_len dashless bs) bs)))
 
 -- a link: three numbers joined by dashes
 abbrev pub link_from : List ℕ → Option Link

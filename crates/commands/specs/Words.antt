@@ -2,34 +2,34 @@
 use Rattle.std.specs.Prelude.{ℕ, ◌+◌, ◌-◌, ◌*◌, ◌%◌, ◌^◌, Bool, true, cond, not, ◌&&◌, ◌||◌, List, [], ◌∷◌, length, take, drop, Some, None, fold, Option, ◌==◌, nat_le, nat_lt, slice_index}
 use Rattle.std.specs.Option.{option_map}
 use Rattle.std.specs.List.{prefix_len}
-use Rattle.commands.specs.declared.words.Class.{Class}
-use Rattle.commands.specs.declared.words.Class.TheVariants.{Blank, NonBlank, NonDash}
 
 -- space, tab and carriage return
 abbrev pub blank : ℕ → Bool
 blank b = b == 32 || (b == 9 || b == 13)
 
--- a blank; no blank; no dash
-abbrev pub within : Class → ℕ → Bool
-within Blank b = blank b
-within NonBlank b = not (blank b)
-within NonDash b = not (b == 45)
+-- what a word is made of
+abbrev pub visible : ℕ → Bool
+visible b = not (blank b)
 
--- how many bytes in front are of the class
-abbrev pub run : Class → List ℕ → ℕ
-run k bs = prefix_len (within k) bs
+-- what may stand before the first dash
+abbrev pub dashless : ℕ → Bool
+dashless b = not (b == 45)
 
 -- a line without the blanks in front
 abbrev pub trimmed : List ℕ → List ℕ
-trimmed bs = drop (run Blank bs) bs
+trimmed bs = drop (prefix_len blank bs) bs
 
 -- the first word of a line, empty where there is none
 abbrev pub first_word : List ℕ → List ℕ
-first_word bs = take (run NonBlank (trimmed bs)) (trimmed bs)
+first_word bs = take (prefix_len visible (trimmed bs)) (trimmed bs)
 
 -- what follows the first word
 abbrev pub after_word : List ℕ → List ℕ
-after_word bs = drop (run NonBlank (trimmed bs)) (trimmed bs)
+after_word bs = drop (prefix_len visible (trimmed bs)) (trimmed bs)
+
+-- the first word of a line, if it has one
+abbrev pub next_word : List ℕ → Option (List ℕ)
+next_word bs = cond (length (first_word bs) == 0) None (Some (first_word bs))
 
 -- the digits from 0 to 9
 abbrev pub is_digit : ℕ → Bool
@@ -72,4 +72,4 @@ hex_word bs = cond (length bs == 8) (read_from with_hex_digit (Some 0) bs) None
 
 -- a line that is passed over: it is empty, has only blanks, or begins with '#'
 abbrev pub is_passed : List ℕ → Bool
-is_passed bs = run Blank bs == length bs || slice_index bs 0 == 35
+is_passed bs = prefix_len blank bs == length bs || slice_index bs 0 == 35

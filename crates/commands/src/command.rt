@@ -1,10 +1,11 @@
-ghost use Rattle.std.specs.Prelude.{◌≡◌};
+ghost use Rattle.std.specs.Prelude.{Some};
 ghost use Rattle.commands.specs.Texts.{missing_text};
 
 use links::Link;
+use std::fmt;
 
 // A command asks for a store, uses the one in hand, settles the changes that it holds, or goes to the hub.
-#[derive(Clone, Copy)]
+#[derive(Clone, Copy, PartialEq, Eq, Debug)]
 pub enum Command {
     Make(Wanted),
     Use(Call),
@@ -13,7 +14,7 @@ pub enum Command {
 }
 
 // What the hub is asked to do; the words of a rule set follow on the line.
-#[derive(Clone, Copy)]
+#[derive(Clone, Copy, PartialEq, Eq, Debug)]
 pub enum HubCall {
     Commission(WantedHub),
     Rules,
@@ -21,7 +22,7 @@ pub enum HubCall {
     Survey(Survey),
 }
 
-#[derive(Clone, Copy)]
+#[derive(Clone, Copy, PartialEq, Eq, Debug)]
 pub struct WantedHub {
     pub plate: u32,
     pub life: u32,
@@ -29,14 +30,14 @@ pub struct WantedHub {
 }
 
 // The survey of one rule, into a buffer of so many words where the line tells them.
-#[derive(Clone, Copy)]
+#[derive(Clone, Copy, PartialEq, Eq, Debug)]
 pub struct Survey {
     pub rule: u32,
     pub room: Option<u32>,
 }
 
 // What the store in hand is asked to do.
-#[derive(Clone, Copy)]
+#[derive(Clone, Copy, PartialEq, Eq, Debug)]
 pub enum Call {
     On(Link),
     Off(Link),
@@ -48,21 +49,21 @@ pub enum Call {
 }
 
 // The next node behind or before a node, under a label, from a number on.
-#[derive(Clone, Copy)]
+#[derive(Clone, Copy, PartialEq, Eq, Debug)]
 pub struct Question {
     pub node: u32,
     pub label: u32,
     pub from: u32,
 }
 
-#[derive(Clone, Copy)]
+#[derive(Clone, Copy, PartialEq, Eq, Debug)]
 pub enum Kind {
     List,
     Bits,
 }
 
 // A store that is asked for, with a layer over it that holds changes or without; `memory` counts its records or words, where the line tells them.
-#[derive(Clone, Copy)]
+#[derive(Clone, Copy, PartialEq, Eq, Debug)]
 pub struct Wanted {
     pub held: bool,
     pub kind: Kind,
@@ -72,7 +73,7 @@ pub struct Wanted {
 }
 
 // Why a line is no command, or none that can be served.
-#[derive(Clone, Copy)]
+#[derive(Clone, Copy, PartialEq, Eq, Debug)]
 pub enum Missing {
     Command,
     Kind,
@@ -85,11 +86,11 @@ pub enum Missing {
     Layer,
 }
 
-impl Missing {
-    pub fn text(self) -> &'static str
-        ensures { result.now ≡ missing_text self }
-    {
-        match self {
+impl fmt::Display for Missing {
+    ghost output = { λ m. Some (missing_text m) };
+
+    fn fmt<W: fmt::Write>(&self, f: &mut fmt::Formatter<W>) -> fmt::Result {
+        f.write_str(match self {
             Missing::Command => "no such command",
             Missing::Kind => "a store is list or bits",
             Missing::Number => "a number is missing, decimal and below 4294967296",
@@ -99,6 +100,6 @@ impl Missing {
             Missing::Word => "a word is 8 hexadecimal digits in upper case",
             Missing::Hub => "no hub",
             Missing::Layer => "no layer that holds changes",
-        }
+        })
     }
 }

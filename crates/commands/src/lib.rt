@@ -7,6 +7,4 @@ mod words;
 
 pub use command::{Call, Command, HubCall, Kind, Missing, Question, Survey, Wanted, WantedHub};
 pub use reading::read_command;
-pub use words::{
-    Class, Cut, Numbered, cut_word, is_passed, parse_link, parse_number, parse_word, run_len,
-};
+pub use words::{Words, is_passed, parse_link, parse_number, parse_word, run_len};

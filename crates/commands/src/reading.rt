@@ -1,235 +1,148 @@
 ghost use Rattle.std.specs.Prelude.{◌≡◌};
-ghost use Rattle.std.specs.Str.{bytes_eq};
-ghost use Rattle.commands.specs.Commands.{call_in, command_of, end_of, hub_call_in, hub_verb_of, kind_of, link_in, memory_in, number_in, numbered, question_in, store_in, survey_in, verb_of, wanted_hub_in, wanted_in, write_in};
+ghost use Rattle.std.specs.Option.{ok_or};
+ghost use Rattle.commands.specs.declared.command.Missing.TheVariants as missing;
+ghost use Rattle.commands.specs.Commands.{command_in, command_of, end_of, kind_of, link_in, memory_in, named, number_in, question_in, readers, store_in, survey_in, three_in, wanted_hub_in, wanted_in, with_rest, write_in};
+ghost use Rattle.commands.specs.Words.{after_word, first_word};
 
 use crate::command::{Call, Command, HubCall, Kind, Missing, Question, Survey, Wanted, WantedHub};
-use crate::words::{Numbered, cut_word, parse_link, parse_number};
+use crate::words::{Words, parse_link, parse_number};
 use links::Link;
 
-// The first words of the commands that use the store in hand.
-#[derive(Clone, Copy)]
-pub enum Verb {
-    On,
-    Off,
-    Is,
-    Target,
-    Source,
-    Count,
-    Spare,
-}
-
-// The first words of the commands that go to the hub.
-#[derive(Clone, Copy)]
-pub enum HubVerb {
-    Hub,
-    Rules,
-    Write,
-    Survey,
-}
-
-fn is_same(word: &[u8], name: &[u8]) -> bool
-    ensures { result ≡ bytes_eq word.now name.now }
-{
-    word == name
-}
-
-fn verb_of(word: &[u8]) -> Option<Verb>
-    ensures { result ≡ verb_of word.now }
-{
-    if is_same(word, b"on") {
-        Some(Verb::On)
-    } else if is_same(word, b"off") {
-        Some(Verb::Off)
-    } else if is_same(word, b"is") {
-        Some(Verb::Is)
-    } else if is_same(word, b"target") {
-        Some(Verb::Target)
-    } else if is_same(word, b"source") {
-        Some(Verb::Source)
-    } else if is_same(word, b"count") {
-        Some(Verb::Count)
-    } else if is_same(word, b"spare") {
-        Some(Verb::Spare)
-    } else {
-        None
+impl Words<'_> {
+    fn number(&mut self) -> Result<u32, Missing>
+        ensures number { with_rest self.new.text.now result ≡ number_in self.old.text.now }
+        ensures rest { self.new.text.now ≡ after_word self.old.text.now }
+    {
+        self.next().and_then(parse_number).ok_or(Missing::Number)
     }
-}
 
-fn hub_verb_of(word: &[u8]) -> Option<HubVerb>
-    ensures { result ≡ hub_verb_of word.now }
-{
-    if is_same(word, b"hub") {
-        Some(HubVerb::Hub)
-    } else if is_same(word, b"rules") {
-        Some(HubVerb::Rules)
-    } else if is_same(word, b"write") {
-        Some(HubVerb::Write)
-    } else if is_same(word, b"survey") {
-        Some(HubVerb::Survey)
-    } else {
-        None
-    }
-}
-
-fn kind_of(word: &[u8]) -> Option<Kind>
-    ensures { result ≡ kind_of word.now }
-{
-    if is_same(word, b"list") {
-        Some(Kind::List)
-    } else if is_same(word, b"bits") {
-        Some(Kind::Bits)
-    } else {
-        None
-    }
-}
-
-fn read_number(text: &[u8]) -> Result<Numbered<'_>, Missing>
-    ensures { numbered result ≡ number_in text.now }
-{
-    let cut = cut_word(text);
-    match parse_number(cut.word) {
-        Some(number) => Ok(Numbered {
-            number,
-            rest: cut.rest,
-        }),
-        None => Err(Missing::Number),
-    }
-}
-
-// No word is left.
-fn read_end(text: &[u8]) -> Result<(), Missing>
-    ensures { result ≡ end_of text.now }
-{
-    if cut_word(text).word.is_empty() {
-        Ok(())
-    } else {
-        Err(Missing::End)
-    }
-}
-
-fn read_link(text: &[u8]) -> Result<Link, Missing>
-    ensures { result ≡ link_in text.now }
-{
-    let cut = cut_word(text);
-    let link = parse_link(cut.word).ok_or(Missing::Link)?;
-    read_end(cut.rest)?;
-    Ok(link)
-}
-
-fn read_question(text: &[u8]) -> Result<Question, Missing>
-    ensures { result ≡ question_in text.now }
-{
-    let node = read_number(text)?;
-    let label = read_number(node.rest)?;
-    let from = read_number(label.rest)?;
-    read_end(from.rest)?;
-    Ok(Question {
-        node: node.number,
-        label: label.number,
-        from: from.number,
-    })
-}
-
-fn read_memory(text: &[u8]) -> Result<Option<u32>, Missing>
-    ensures { result ≡ memory_in text.now }
-{
-    if cut_word(text).word.is_empty() {
-        return Ok(None);
-    }
-    let memory = read_number(text)?;
-    read_end(memory.rest)?;
-    Ok(Some(memory.number))
-}
-
-// The kind, the sizes and the memory of a wanted store.
-fn read_store(held: bool, text: &[u8]) -> Result<Wanted, Missing>
-    ensures { result ≡ store_in held text.now }
-{
-    let cut = cut_word(text);
-    let kind = kind_of(cut.word).ok_or(Missing::Kind)?;
-    let things = read_number(cut.rest)?;
-    let limit = read_number(things.rest)?;
-    let memory = read_memory(limit.rest)?;
-    Ok(Wanted {
-        held,
-        kind,
-        things: things.number,
-        limit: limit.number,
-        memory,
-    })
-}
-
-fn read_wanted(text: &[u8]) -> Result<Wanted, Missing>
-    ensures { result ≡ wanted_in text.now }
-{
-    let cut = cut_word(text);
-    if is_same(cut.word, b"held") {
-        read_store(true, cut.rest)
-    } else {
-        read_store(false, text)
-    }
-}
-
-fn read_wanted_hub(text: &[u8]) -> Result<WantedHub, Missing>
-    ensures { result ≡ wanted_hub_in text.now }
-{
-    let plate = read_number(text)?;
-    let life = read_number(plate.rest)?;
-    let rows = read_number(life.rest)?;
-    read_end(rows.rest)?;
-    Ok(WantedHub {
-        plate: plate.number,
-        life: life.number,
-        rows: rows.number,
-    })
-}
-
-fn read_room(text: &[u8]) -> Result<u32, Missing>
-    ensures { result ≡ write_in text.now }
-{
-    let room = read_number(text)?;
-    read_end(room.rest)?;
-    Ok(room.number)
-}
-
-fn read_survey(text: &[u8]) -> Result<Survey, Missing>
-    ensures { result ≡ survey_in text.now }
-{
-    let rule = read_number(text)?;
-    let room = read_memory(rule.rest)?;
-    Ok(Survey {
-        rule: rule.number,
-        room,
-    })
-}
-
-fn read_hub_call(verb: HubVerb, text: &[u8]) -> Result<HubCall, Missing>
-    ensures { result ≡ hub_call_in verb text.now }
-{
-    match verb {
-        HubVerb::Hub => Ok(HubCall::Commission(read_wanted_hub(text)?)),
-        HubVerb::Rules => Ok(HubCall::Rules),
-        HubVerb::Write => Ok(HubCall::Write(read_room(text)?)),
-        HubVerb::Survey => Ok(HubCall::Survey(read_survey(text)?)),
-    }
-}
-
-fn read_call(verb: Verb, text: &[u8]) -> Result<Call, Missing>
-    ensures { result ≡ call_in verb text.now }
-{
-    match verb {
-        Verb::On => Ok(Call::On(read_link(text)?)),
-        Verb::Off => Ok(Call::Off(read_link(text)?)),
-        Verb::Is => Ok(Call::Is(read_link(text)?)),
-        Verb::Target => Ok(Call::Target(read_question(text)?)),
-        Verb::Source => Ok(Call::Source(read_question(text)?)),
-        Verb::Count => {
-            read_end(text)?;
-            Ok(Call::Count)
+    // Refuses a word that is left.
+    fn end(mut self) -> Result<(), Missing>
+        ensures { result ≡ end_of self.entry.text.now }
+    {
+        match self.next() {
+            None => Ok(()),
+            Some(_) => Err(Missing::End),
         }
-        Verb::Spare => {
-            read_end(text)?;
-            Ok(Call::Spare)
+    }
+
+    fn link(mut self) -> Result<Link, Missing>
+        ensures { result ≡ link_in self.entry.text.now }
+    {
+        let link = self.next().and_then(parse_link).ok_or(Missing::Link)?;
+        self.end()?;
+        Ok(link)
+    }
+
+    // Three numbers, the last words.
+    fn three_numbers(mut self) -> Result<(u32, u32, u32), Missing>
+        ensures { result ≡ three_in self.entry.text.now }
+    {
+        let numbers = (self.number()?, self.number()?, self.number()?);
+        self.end()?;
+        Ok(numbers)
+    }
+
+    fn question(self) -> Result<Question, Missing>
+        ensures { result ≡ question_in self.entry.text.now }
+    {
+        let (node, label, from) = self.three_numbers()?;
+        Ok(Question { node, label, from })
+    }
+
+    fn wanted_hub(self) -> Result<WantedHub, Missing>
+        ensures { result ≡ wanted_hub_in self.entry.text.now }
+    {
+        let (plate, life, rows) = self.three_numbers()?;
+        Ok(WantedHub { plate, life, rows })
+    }
+
+    // The memory of a wanted store or the room of a buffer, or nothing.
+    fn memory(mut self) -> Result<Option<u32>, Missing>
+        ensures { result ≡ memory_in self.entry.text.now }
+    {
+        let Some(word) = self.next() else {
+            return Ok(None);
+        };
+        let memory = parse_number(word).ok_or(Missing::Number)?;
+        self.end()?;
+        Ok(Some(memory))
+    }
+
+    fn kind(&mut self) -> Result<Kind, Missing>
+        ensures kind { result ≡ ok_or (kind_of (first_word self.old.text.now)) missing.Kind }
+        ensures rest { self.new.text.now ≡ after_word self.old.text.now }
+    {
+        match self.next() {
+            Some(b"list") => Ok(Kind::List),
+            Some(b"bits") => Ok(Kind::Bits),
+            _ => Err(Missing::Kind),
+        }
+    }
+
+    // The kind, the sizes and the memory of a wanted store.
+    fn store(mut self, held: bool) -> Result<Wanted, Missing>
+        ensures { result ≡ store_in held self.entry.text.now }
+    {
+        Ok(Wanted {
+            held,
+            kind: self.kind()?,
+            things: self.number()?,
+            limit: self.number()?,
+            memory: self.memory()?,
+        })
+    }
+
+    // A wanted store, with a layer that holds changes where `held` stands first.
+    fn wanted(self) -> Result<Wanted, Missing>
+        ensures { result ≡ wanted_in self.entry.text.now }
+    {
+        let mut behind = self;
+        if behind.next() == Some(b"held") {
+            behind.store(true)
+        } else {
+            self.store(false)
+        }
+    }
+
+    // The room of a buffer.
+    fn room(mut self) -> Result<u32, Missing>
+        ensures { result ≡ write_in self.entry.text.now }
+    {
+        let room = self.number()?;
+        self.end()?;
+        Ok(room)
+    }
+
+    fn survey(mut self) -> Result<Survey, Missing>
+        ensures { result ≡ survey_in self.entry.text.now }
+    {
+        Ok(Survey {
+            rule: self.number()?,
+            room: self.memory()?,
+        })
+    }
+
+    // The command of a first word, which this one is, and of the words behind it.
+    #[tactic(auto, using(std::proofs::lemmas::Grind::common_steps, crate::proofs::Names::five, crate::proofs::Names::six))]
+    fn command(self, name: &[u8]) -> Result<Command, Missing>
+        ensures { result ≡ command_in (named name.now readers) self.entry.text.now }
+    {
+        match name {
+            b"store" => Ok(Command::Make(self.wanted()?)),
+            b"settle" => self.end().map(|()| Command::Settle),
+            b"hub" => Ok(Command::Hub(HubCall::Commission(self.wanted_hub()?))),
+            b"rules" => Ok(Command::Hub(HubCall::Rules)),
+            b"write" => Ok(Command::Hub(HubCall::Write(self.room()?))),
+            b"survey" => Ok(Command::Hub(HubCall::Survey(self.survey()?))),
+            b"on" => Ok(Command::Use(Call::On(self.link()?))),
+            b"off" => Ok(Command::Use(Call::Off(self.link()?))),
+            b"is" => Ok(Command::Use(Call::Is(self.link()?))),
+            b"target" => Ok(Command::Use(Call::Target(self.question()?))),
+            b"source" => Ok(Command::Use(Call::Source(self.question()?))),
+            b"count" => self.end().map(|()| Command::Use(Call::Count)),
+            b"spare" => self.end().map(|()| Command::Use(Call::Spare)),
+            _ => Err(Missing::Command),
         }
     }
 }
@@ -238,17 +151,7 @@ fn read_call(verb: Verb, text: &[u8]) -> Result<Call, Missing>
 pub fn read_command(line: &[u8]) -> Result<Command, Missing>
     ensures { result ≡ command_of line.now }
 {
-    let cut = cut_word(line);
-    if is_same(cut.word, b"store") {
-        return Ok(Command::Make(read_wanted(cut.rest)?));
-    }
-    if is_same(cut.word, b"settle") {
-        read_end(cut.rest)?;
-        return Ok(Command::Settle);
-    }
-    if let Some(verb) = hub_verb_of(cut.word) {
-        return Ok(Command::Hub(read_hub_call(verb, cut.rest)?));
-    }
-    let verb = verb_of(cut.word).ok_or(Missing::Command)?;
-    Ok(Command::Use(read_call(verb, cut.rest)?))
+    let mut words = Words { text: line };
+    let name = words.next().ok_or(Missing::Command)?;
+    words.command(name)
 }

@@ -1,19 +1,10 @@
-use Rattle.std.proofs.Common.{sym, arith}
-use Rattle.std.proofs.lemmas.List.Sums.{prefix_len-drop_yes, prefix_len-drop_no, prefix_len-drop_all}
-use Rattle.commands.specs.Words.{within}
+use Rattle.std.proofs.Common.{rules, tests, not}
+use Rattle.std.proofs.lemmas.Iterator.{YieldsList-from_slice}
+use Rattle.std.proofs.lemmas.Iterator.Search.{position_from_yields_List}
+use Rattle.commands.proofs.Runs.{run_by_position}
 use Rattle.commands.proofs.words.run_len.Goals as goal
 
-pub returns-then-not-has : goal.returns-then-not-has
-returns-then-not-has c =
-    let none = prefix_len-drop_no (within c.args.class) c.args.text.now c.loop-at.at 0 c.loop-at-test.true (sym c.if-not-has.ensures) in
-    record { is = omega (arith, none, c.loop-at.invariant); inside = omega arith }
-
-pub loop-at-preserved : goal.loop-at-preserved
-loop-at-preserved c =
-    let one = prefix_len-drop_yes (within c.args.class) c.args.text.now c.loop-at.at 0 c.loop-at-test.true (sym c.if-not-has.ensures) in
-    omega (arith, one, c.loop-at.invariant)
-
-pub returns : goal.returns
-returns c =
-    let none = prefix_len-drop_all (within c.args.class) c.args.text.now c.loop-at.at c.loop-at-test.false in
-    record { is = omega (arith, none, c.loop-at.invariant); inside = omega arith }
+pub returns-clause-is : goal.returns-clause-is
+returns-clause-is g c = λ test h.
+    run_by_position test _ _ _ c.unwrap_or.ensures
+    (position_from_yields_List (λ b. not (test b)) _ _ _ c.position.ensures.ran (YieldsList-from_slice c.args.text.now cc) (λ x b q k. search (rules, tests, h)))

@@ -1,6 +1,0 @@
-use Rattle.std.proofs.Common.{◌≡◌, drop, Some}
-use Rattle.commands.specs.Words.{read_from, with_hex_digit}
-use Rattle.commands.proofs.words.parse_word.Given as goal
-
-abbrev pub invariant-loop-byte : goal.invariant-loop-byte
-invariant-loop-byte l = read_from with_hex_digit (Some l.value) (drop l.byte-index l.word) ≡ read_from with_hex_digit (Some 0) l.word

@@ -81,11 +81,7 @@ fn part_start(words: &[u32], i: usize) -> usize
     ensures within { result ≤ length words.now }
     ensures start { (r : Rule) → FormedRule r → words.now ≡ rule_words r → PartAt words.now r i result }
 {
-    let mut at = words.len().min(1);
-    for _ in 0..i {
-        at = part_end(words, at);
-    }
-    at
+    (0..i).fold(words.len().min(1), |at, _| part_end(words, at))
 }
 
 // The part from `at` to `end`, by the kind of its first word.

@@ -56,29 +56,26 @@ pub fn is_of(word: u32, kinds: &RangeInclusive<Kind>) -> bool
     kinds.start().number() <= number && number <= kinds.end().number()
 }
 
-// Where the run of words of these kinds that begins at `from` ends.
+// Where the run of words of these kinds that begins at `from` ends: `from` itself where none begins.
 pub fn run_end(words: &[u32], from: usize, kinds: RangeInclusive<Kind>) -> usize
-    requires { from ≤ length words.now }
-    ensures end { result ≡ end_of (kind_number (range_inclusive_start kinds)) (kind_number (range_inclusive_end kinds)) words.now from }
-    ensures within { (from ≤ result) × (result ≤ length words.now) }
+    ensures end { from ≤ length words.now → result ≡ end_of (kind_number (range_inclusive_start kinds)) (kind_number (range_inclusive_end kinds)) words.now from }
+    ensures within { from ≤ length words.now → (from ≤ result) × (result ≤ length words.now) }
 {
-    let run = words[from..]
-        .iter()
-        .take_while(|word| is_of(**word, &kinds))
-        .count();
-    from + run
+    let Some(more) = words.get(from..) else {
+        return from;
+    };
+    from + more.iter().take_while(|word| is_of(**word, &kinds)).count()
 }
 
 // Where the part of a rule that begins at `at` ends: `at` itself where none begins.
 pub fn part_end(words: &[u32], at: usize) -> usize
-    requires { at ≤ length words.now }
-    ensures end { result ≡ part_end words.now at }
-    ensures within { (at ≤ result) × (result ≤ length words.now) }
+    ensures end { at ≤ length words.now → result ≡ part_end words.now at }
+    ensures within { at ≤ length words.now → (at ≤ result) × (result ≤ length words.now) }
 {
-    if at == words.len() {
+    let Some(word) = words.get(at) else {
         return at;
-    }
-    match Kind::of(words[at]) {
+    };
+    match Kind::of(*word) {
         Some(Kind::LinkToVariable | Kind::LinkToMark) => {
             run_end(words, at, Kind::LinkToVariable..=Kind::LinkToMark)
         }

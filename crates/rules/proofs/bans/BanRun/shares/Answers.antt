@@ -1,3 +1,4 @@
+use Rattle.std.proofs.Common.{arith}
 use Rattle.rules.proofs.KindNumbers.{end_by}
 use Rattle.rules.proofs.BanRuns.{shares_found, shares_place, shares_read}
 use Rattle.rules.proofs.bans.BanRun.shares.Goals as goal
@@ -5,5 +6,5 @@ use Rattle.rules.proofs.bans.BanRun.shares.Goals as goal
 pub returns : goal.returns
 returns c =
     λ n b h.
-    let w = shares_found c.args.self.place c.args.self.words.now n b h c.min-from.result c.run_end-end.result c.min-from.ensures (end_by c.new.result c.min-from.result c.args.self.words.now c.new.ensures.start c.new.ensures.end c.run_end-end.ensures.end) in
-    ((shares_place c.args.self.place c.args.self.words.now n b h c.min-from.result c.run_end-end.result c.min-from.ensures (end_by c.new.result c.min-from.result c.args.self.words.now c.new.ensures.start c.new.ensures.end c.run_end-end.ensures.end) c.saturating_add.result c.saturating_add.ensures, w), shares_read c.args.self.place c.args.self.words.now n b h _ w)
+    let w = shares_found c.args.self.place c.args.self.words.now n b h c.min-from.result c.run_end-end.result c.min-from.ensures (end_by c.new.result c.min-from.result c.args.self.words.now c.new.ensures.start c.new.ensures.end (c.run_end-end.ensures.end (let z = c.min-from.ensures in omega arith))) in
+    ((shares_place c.args.self.place c.args.self.words.now n b h c.min-from.result c.run_end-end.result c.min-from.ensures (end_by c.new.result c.min-from.result c.args.self.words.now c.new.ensures.start c.new.ensures.end (c.run_end-end.ensures.end (let z = c.min-from.ensures in omega arith))) c.saturating_add.result c.saturating_add.ensures, w), shares_read c.args.self.place c.args.self.words.now n b h _ w)

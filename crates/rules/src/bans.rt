@@ -4,11 +4,11 @@ ghost use Rattle.rules.specs.Rules.{Ban};
 ghost use Rattle.rules.specs.Parts.{BanHere};
 ghost use Rattle.rules.specs.Handed.{LinksAre, SharesAre};
 
-use crate::runs::{Run, first_number, run_end};
+use crate::runs::{Run, after_first, first_number, run_end};
 use words::Kind;
 
 // One ban's words, and the place of the first.
-#[derive(Clone, Copy)]
+#[derive(Clone, Copy, Debug, PartialEq, Eq)]
 pub struct BanRun<'a> {
     pub place: usize,
     pub words: &'a [u32],
@@ -25,12 +25,7 @@ impl<'a> BanRun<'a> {
     pub fn shares(self) -> Run<'a>
         ensures { (n : ℕ) (b : Ban) → BanHere self.entry.place self.entry.words.now n b → SharesAre (self.entry.place + 1) b.shares result }
     {
-        let from = self.words.len().min(1);
-        let end = run_end(self.words, from, Kind::Shares..=Kind::Shares);
-        Run {
-            place: self.place.saturating_add(1),
-            words: &self.words[from..end],
-        }
+        after_first(self.place, self.words, Kind::Shares..=Kind::Shares)
     }
 
     // A word for each link.

@@ -6,18 +6,18 @@ ghost use Rattle.rules.specs.Parts.{RuleHere, pieces, pieces_words};
 ghost use Rattle.rules.specs.Handed.{PartAt, PartIs, Cut, BanIs, LinksAre, ban_of};
 
 use crate::bans::BanRun;
-use crate::runs::{Run, first_number, part_end, run_end};
+use crate::runs::{Run, after_first, first_number, part_end};
 use words::Kind;
 
 // One rule's words, and the place of the first.
-#[derive(Clone, Copy)]
+#[derive(Clone, Copy, Debug, PartialEq, Eq)]
 pub struct RuleRun<'a> {
     pub place: usize,
     pub words: &'a [u32],
 }
 
 // A part of a rule: all its needs, one ban, all its strikes, or its makes.
-#[derive(Clone, Copy)]
+#[derive(Clone, Copy, Debug, PartialEq, Eq)]
 pub enum Part<'a> {
     Need(Run<'a>),
     Ban(BanRun<'a>),
@@ -58,12 +58,8 @@ impl<'a> RuleRun<'a> {
     pub fn needs(self) -> Run<'a>
         ensures { (r : Rule) → RuleHere self.entry.place self.entry.words.now r → LinksAre (self.entry.place + 1) r.needs result }
     {
-        let from = self.words.len().min(1);
-        let end = run_end(self.words, from, Kind::LinkToVariable..=Kind::LinkToMark);
-        Run {
-            place: self.place.saturating_add(1),
-            words: &self.words[from..end],
-        }
+        let links = Kind::LinkToVariable..=Kind::LinkToMark;
+        after_first(self.place, self.words, links)
     }
 }
 

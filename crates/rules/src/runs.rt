@@ -2,7 +2,8 @@
 ghost use Rattle.std.specs.Prelude.{◌≡◌, ℕ, ◌+◌, ◌-◌, ◌*◌, ◌%◌, ◌≤◌, Bool, length, take, drop, slice_index};
 ghost use Rattle.std.specs.Range.{range_inclusive_start, range_inclusive_end};
 ghost use Rattle.words.specs.Words.{kind_number};
-ghost use Rattle.rules.specs.Runs.{within, end_of, part_end};
+ghost use Rattle.rules.specs.Runs.{within, span, end_of, part_end};
+ghost use Rattle.rules.specs.Handed.{RunIs};
 ghost use Rattle.rules.specs.Marks.{passed, first_mark, marks_by};
 
 use crate::faults::PlacedFault;
@@ -10,7 +11,7 @@ use std::ops::RangeInclusive;
 use words::{Kind, RuleFault, low_byte};
 
 // Some of the given words, and the place of the first.
-#[derive(Clone, Copy)]
+#[derive(Clone, Copy, Debug, PartialEq, Eq)]
 pub struct Run<'a> {
     pub place: usize,
     pub words: &'a [u32],
@@ -38,6 +39,18 @@ impl<'a> Run<'a> {
             }),
             None => Ok(()),
         }
+    }
+}
+
+// The words after the first, as far as they are of these kinds; the first stands at `place`.
+pub fn after_first<'a>(place: usize, words: &'a [u32], kinds: RangeInclusive<Kind>) -> Run<'a>
+    ensures { place + length words.now ≤ 1024 → 1 ≤ length words.now → RunIs (place + 1) (take (span (kind_number (range_inclusive_start kinds)) (kind_number (range_inclusive_end kinds)) (drop 1 words.now)) (drop 1 words.now)) result }
+{
+    let from = words.len().min(1);
+    let end = run_end(words, from, kinds);
+    Run {
+        place: place.saturating_add(1),
+        words: &words[from..end],
     }
 }
 

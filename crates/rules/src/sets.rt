@@ -12,7 +12,7 @@ use crate::runs::run_end;
 use words::Kind;
 
 // The words of a rule set, and how many rules they say.
-#[derive(Clone, Copy)]
+#[derive(Clone, Copy, Debug, PartialEq, Eq)]
 pub struct RuleSet<'a> {
     pub words: &'a [u32],
     pub rules: usize,

@@ -2,11 +2,11 @@
 ghost use Rattle.std.specs.Prelude.{◌≡◌, ◌+◌, ◌≤◌, length, take, drop};
 ghost use Rattle.rules.specs.Rules.{Rule, rule_words, bans_words};
 ghost use Rattle.rules.specs.Formed.{FormedRule};
-ghost use Rattle.rules.specs.Parts.{RuleHere, pieces, pieces_words};
+ghost use Rattle.rules.specs.Parts.{RuleAt, pieces, pieces_words};
 ghost use Rattle.rules.specs.Handed.{PartAt, PartIs, Cut, BanIs, LinksAre, ban_of};
 
 use crate::bans::BanRun;
-use crate::runs::{Run, after_first, first_number, part_end};
+use crate::runs::{Run, first_number, part_end};
 use words::Kind;
 
 // One rule's words, and the place of the first.
@@ -27,14 +27,14 @@ pub enum Part<'a> {
 
 impl<'a> RuleRun<'a> {
     pub fn variables(self) -> u32
-        ensures { (r : Rule) → RuleHere self.entry.place self.entry.words.now r → result ≡ r.variables }
+        ensures { (r : Rule) → RuleAt self.entry r → result ≡ r.variables }
     {
         first_number(self.words)
     }
 
     // Part number `i`, counted from 0 in the order of the words; a rule has at most seven.
     pub fn part(self, i: usize) -> Option<Part<'a>>
-        ensures { (r : Rule) → RuleHere self.entry.place self.entry.words.now r → PartIs (self.entry.place + 1 + length (pieces_words (take i (pieces r)))) (drop i (pieces r)) result }
+        ensures { (r : Rule) → RuleAt self.entry r → PartIs (self.entry.place + 1 + length (pieces_words (take i (pieces r)))) (drop i (pieces r)) result }
     {
         if i >= 7 {
             return None;
@@ -46,7 +46,7 @@ impl<'a> RuleRun<'a> {
 
     // Ban number `i`, counted from 0; a rule has at most four.
     pub fn ban(self, i: usize) -> Option<BanRun<'a>>
-        ensures { (r : Rule) → RuleHere self.entry.place self.entry.words.now r → BanIs r.variables (self.entry.place + 1 + length r.needs + length (bans_words (take i r.bans))) (drop i r.bans) result }
+        ensures { (r : Rule) → RuleAt self.entry r → BanIs r.variables (self.entry.place + 1 + length r.needs + length (bans_words (take i r.bans))) (drop i r.bans) result }
     {
         if i >= 4 {
             return None;
@@ -56,10 +56,13 @@ impl<'a> RuleRun<'a> {
 
     // A word for each need.
     pub fn needs(self) -> Run<'a>
-        ensures { (r : Rule) → RuleHere self.entry.place self.entry.words.now r → LinksAre (self.entry.place + 1) r.needs result }
+        ensures { (r : Rule) → RuleAt self.entry r → LinksAre (self.entry.place + 1) r.needs result }
     {
-        let links = Kind::LinkToVariable..=Kind::LinkToMark;
-        after_first(self.place, self.words, links)
+        Run {
+            place: self.place,
+            words: self.words,
+        }
+        .after_first(Kind::LinkToVariable..=Kind::LinkToMark)
     }
 }
 

@@ -18,6 +18,18 @@ pub struct Run<'a> {
 }
 
 impl<'a> Run<'a> {
+    // The words after the first, as far as they are of these kinds.
+    pub fn after_first(self, kinds: RangeInclusive<Kind>) -> Run<'a>
+        ensures { self.entry.place + length self.entry.words.now ≤ 1024 → 1 ≤ length self.entry.words.now → RunIs (self.entry.place + 1) (take (span (kind_number (range_inclusive_start kinds)) (kind_number (range_inclusive_end kinds)) (drop 1 self.entry.words.now)) (drop 1 self.entry.words.now)) result }
+    {
+        let from = self.words.len().min(1);
+        let end = run_end(self.words, from, kinds);
+        Run {
+            place: self.place.saturating_add(1),
+            words: &self.words[from..end],
+        }
+    }
+
     // Refuses the first word that has the fault, as the test says of a word and its number in the run.
     pub fn check_words<F: Fn(usize, u32) -> bool>(
         self,
@@ -39,18 +51,6 @@ impl<'a> Run<'a> {
             }),
             None => Ok(()),
         }
-    }
-}
-
-// The words after the first, as far as they are of these kinds; the first stands at `place`.
-pub fn after_first<'a>(place: usize, words: &'a [u32], kinds: RangeInclusive<Kind>) -> Run<'a>
-    ensures { place + length words.now ≤ 1024 → 1 ≤ length words.now → RunIs (place + 1) (take (span (kind_number (range_inclusive_start kinds)) (kind_number (range_inclusive_end kinds)) (drop 1 words.now)) (drop 1 words.now)) result }
-{
-    let from = words.len().min(1);
-    let end = run_end(words, from, kinds);
-    Run {
-        place: place.saturating_add(1),
-        words: &words[from..end],
     }
 }
 

@@ -8,6 +8,6 @@ returns c =
     λ r h.
     let place = c.args.self.place in
     let ws = c.args.self.words.now in
-    let q = run_by c.new-links.result (place + 1) (drop 1 ws) c.after_first.result c.new-links.ensures.start c.new-links.ensures.end (c.after_first.ensures h.inside (rule_some place ws r h)) in
+    let q = run_by c.new.result (place + 1) (drop 1 ws) c.after_first.result c.new.ensures.start c.new.ensures.end (c.after_first.ensures h.inside (rule_some place ws r h)) in
     let w = q.1 ∙ needs_run place ws r h in
     ((q.0, w), needs_read place ws r h _ w)

@@ -5,7 +5,7 @@ ghost use Rattle.rules.specs.Reading.{accepted, rule_count};
 mod calls;
 
 // What a hub is made with: a plate number, a life of 1 to 268,435,455 and a row limit of 1 to 1,024.
-#[derive(Clone, Copy)]
+#[derive(Clone, Copy, Debug, PartialEq, Eq)]
 pub struct Terms {
     plate: u32,
     life: u32,

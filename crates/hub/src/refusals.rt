@@ -1,13 +1,15 @@
 // What the calls of a commissioning hub refuse, each with its own cases.
-ghost use Rattle.std.specs.Prelude.{◌≡◌};
+ghost use Rattle.std.specs.Prelude.{◌≡◌, Some};
 ghost use Rattle.hub.specs.Numbers.{ask_number, read_number, write_number};
+ghost use Rattle.hub.specs.Texts.{hub_text, write_text};
 ghost use Rattle.hub.specs.declared.refusals.ReadRefusal.TheVariants.{Fault, NoMemory};
 
 use rules::SetFault;
 use std::alloc::AllocError;
+use std::fmt;
 
 // Why a hub cannot be made.
-#[derive(Clone, Copy, PartialEq, Eq, Debug)]
+#[derive(Clone, Copy, Debug, PartialEq, Eq)]
 pub enum HubRefusal {
     OutOfRange = 21,
 }
@@ -20,8 +22,18 @@ impl HubRefusal {
     }
 }
 
+impl fmt::Display for HubRefusal {
+    ghost output = { λ refusal. Some (hub_text refusal) };
+
+    fn fmt<W: fmt::Write>(&self, f: &mut fmt::Formatter<W>) -> fmt::Result {
+        f.write_str(match *self {
+            HubRefusal::OutOfRange => "out of range",
+        })
+    }
+}
+
 // Why a rule set is not taken; want of memory has no number.
-#[derive(Clone, Copy)]
+#[derive(Clone, Copy, Debug, PartialEq, Eq)]
 pub enum ReadRefusal {
     Fault(SetFault),
     NoMemory,
@@ -55,7 +67,7 @@ impl From<AllocError> for ReadRefusal {
 }
 
 // Why a rule set is not written out.
-#[derive(Clone, Copy, PartialEq, Eq, Debug)]
+#[derive(Clone, Copy, Debug, PartialEq, Eq)]
 pub enum WriteRefusal {
     Short = 39,
 }
@@ -65,5 +77,15 @@ impl WriteRefusal {
         ensures { result ≡ write_number self }
     {
         self as u8
+    }
+}
+
+impl fmt::Display for WriteRefusal {
+    ghost output = { λ refusal. Some (write_text refusal) };
+
+    fn fmt<W: fmt::Write>(&self, f: &mut fmt::Formatter<W>) -> fmt::Result {
+        f.write_str(match *self {
+            WriteRefusal::Short => "buffer too short",
+        })
     }
 }

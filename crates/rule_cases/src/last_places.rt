@@ -1,5 +1,6 @@
 // Sets of 1,024 words: each number at its last possible place.
 use rules::read;
+use std::alloc::{AllocError, Global};
 use std::test::Fail;
 use words::Layer;
 
@@ -163,84 +164,54 @@ const LAST: [Last; 11] = [
     },
 ];
 
-// Words that are put together.
-#[derive(Drop)]
-struct Page {
-    words: [u32; 1024],
-    len: usize,
-}
-
-impl Page {
-    // Puts the words behind the others, as far as there is room.
-    fn put(&mut self, words: &[u32]) {
-        for word in words {
-            if self.len < 1024 {
-                self.words[self.len] = *word;
-                self.len += 1;
-            }
-        }
+// Fourteen rules, and one with so many struck needs more.
+fn long(heap: Global, more: usize) -> Result<Vec<u32>, AllocError> {
+    let mut words = Vec::new(heap);
+    for _ in 0..14 {
+        words.extend_from_slice(&RULE)?;
     }
-
-    // Fourteen rules, and one with so many struck needs more.
-    fn long(more: usize) -> Page {
-        let mut page = Page {
-            words: [0; 1024],
-            len: 0,
-        };
-        for _ in 0..14 {
-            page.put(&RULE);
-        }
-        page.put(&RULE[0..50]);
-        for need in 7..7 + more.min(5) {
-            page.put(&[0x60000000 + need as u32]);
-        }
-        page.put(&RULE[50..64]);
-        page
+    words.extend_from_slice(&RULE[..50])?;
+    for need in 7..7 + more.min(5) {
+        words.push(0x60000000 + need as u32)?;
     }
+    words.extend_from_slice(&RULE[50..])?;
+    Ok(words)
 }
 
 #[test]
 fn last_places(rt: HostRuntime) -> Result<(), Fail> {
     for case in &LAST {
-        let mut page = Page::long(case.more);
-        page.put(&case.rule[0..case.kept.min(case.rule.len())]);
-        page.put(case.words);
-        assert_eq!(rt; page.len, 1024);
-        match read(&page.words) {
-            Ok(_) => {
-                return Err(Fail::new("taken"));
-            }
-            Err(fault) => {
-                assert_eq!(rt; fault.number(), case.number);
-                assert_eq!(rt; fault.place, case.place);
-                assert_eq!(rt; fault.rule, ends_before(&page.words, case.place));
-                assert_eq!(rt; fault.layer(), case.layer);
-            }
-        }
+        let mut words = long(rt.alloc(), case.more)?;
+        words.extend_from_slice(&case.rule[..case.kept.min(case.rule.len())])?;
+        words.extend_from_slice(case.words)?;
+        assert_eq!(rt; words.len(), 1024);
+        let Err(fault) = read(words.as_slice()) else {
+            return Err(Fail::new("taken"));
+        };
+        assert_eq!(rt; fault.number(), case.number);
+        assert_eq!(rt; fault.place, case.place);
+        assert_eq!(rt; fault.rule, ends_before(words.as_slice(), case.place));
+        assert_eq!(rt; fault.layer(), case.layer);
     }
     Ok(())
 }
 
 // How many of the words before the place end a rule.
 fn ends_before(words: &[u32], place: usize) -> usize {
-    let mut ends = 0usize;
-    for word in &words[0..place.min(words.len())] {
-        if *word == 0x90000000 {
-            ends = ends.saturating_add(1);
-        }
-    }
-    ends
+    words
+        .iter()
+        .take(place)
+        .filter(|word| **word == 0x90000000)
+        .count()
 }
 
 #[test]
 fn a_full_set(rt: HostRuntime) -> Result<(), Fail> {
-    let mut page = Page::long(0);
-    page.put(&RULE);
-    match read(&page.words) {
-        Ok(set) => {
-            assert_eq!(rt; set.rules, 16);
-            Ok(())
-        },
-        Err(_) => Err(Fail::new("refused")),
-    }
+    let mut words = long(rt.alloc(), 0)?;
+    words.extend_from_slice(&RULE)?;
+    let Ok(set) = read(words.as_slice()) else {
+        return Err(Fail::new("refused"));
+    };
+    assert_eq!(rt; set.rules, 16);
+    Ok(())
 }

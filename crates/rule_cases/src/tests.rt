@@ -729,17 +729,13 @@ const TAKEN: [Taken; 14] = [
 #[test]
 fn faults(rt: HostRuntime) -> Result<(), Fail> {
     for case in &REFUSED {
-        match read(case.words) {
-            Ok(_) => {
-                return Err(Fail::new("taken"));
-            }
-            Err(fault) => {
-                assert_eq!(rt; fault.number(), case.number);
-                assert_eq!(rt; fault.place, case.place);
-                assert_eq!(rt; fault.rule, case.rule);
-                assert_eq!(rt; fault.layer(), case.layer);
-            }
-        }
+        let Err(fault) = read(case.words) else {
+            return Err(Fail::new("taken"));
+        };
+        assert_eq!(rt; fault.number(), case.number);
+        assert_eq!(rt; fault.place, case.place);
+        assert_eq!(rt; fault.rule, case.rule);
+        assert_eq!(rt; fault.layer(), case.layer);
     }
     Ok(())
 }
@@ -747,12 +743,10 @@ fn faults(rt: HostRuntime) -> Result<(), Fail> {
 #[test]
 fn sets(rt: HostRuntime) -> Result<(), Fail> {
     for case in &TAKEN {
-        match read(case.words) {
-            Ok(set) => assert_eq!(rt; set.rules, case.rules),
-            Err(_) => {
-                return Err(Fail::new("refused"));
-            }
-        }
+        let Ok(set) = read(case.words) else {
+            return Err(Fail::new("refused"));
+        };
+        assert_eq!(rt; set.rules, case.rules);
     }
     Ok(())
 }
@@ -760,14 +754,12 @@ fn sets(rt: HostRuntime) -> Result<(), Fail> {
 #[test]
 fn too_many_words(rt: HostRuntime) -> Result<(), Fail> {
     let words = [0u32; 1025];
-    match read(&words) {
-        Ok(_) => Err(Fail::new("taken")),
-        Err(fault) => {
-            assert_eq!(rt; fault.number(), 16);
-            assert_eq!(rt; fault.place, 1024);
-            assert_eq!(rt; fault.rule, 0);
-            assert_eq!(rt; fault.layer(), Layer::Set);
-            Ok(())
-        }
-    }
+    let Err(fault) = read(&words) else {
+        return Err(Fail::new("taken"));
+    };
+    assert_eq!(rt; fault.number(), 16);
+    assert_eq!(rt; fault.place, 1024);
+    assert_eq!(rt; fault.rule, 0);
+    assert_eq!(rt; fault.layer(), Layer::Set);
+    Ok(())
 }

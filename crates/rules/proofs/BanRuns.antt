@@ -43,17 +43,19 @@ module _ (place : ℕ) (ws : List ℕ) (n : ℕ) (b : Ban) (h : BanHere place ws
     end_is : end ≡ 1 + length (share_words b.shares)
     end_is = e ∙ ap (end_of 5 5 ws) first_one ∙ shares_end
 
-    pub shares_found : take (end - from) (drop from ws) ≡ share_words b.shares
-    shares_found = let g : end ≡ from + length (share_words b.shares) = let x = first_one in let y = end_is in omega arith in run_at ws from end (share_words b.shares) (link_words b.links) (ap (λ z. drop z ws) first_one ∙ share_run) g
-
     pub links_found : take (length ws - end) (drop end ws) ≡ link_words b.links
     links_found = take_rest ws end ∙ ap (λ z. drop z ws) end_is ∙ past_at ws 1 (share_words b.shares) (link_words b.links) share_run
 
-    pub shares_place : (p : ℕ) → p ≡ min (place + 1) (2 ^ 64 - 1) → p ≡ place + 1
-    shares_place p q = let i = h.inside in omega arith
-
     pub links_place : (p : ℕ) → p ≡ min (place + end) (2 ^ 64 - 1) → p ≡ place + 1 + length b.shares
     links_place p q = let i = h.inside in let y = end_is in let l = ban_length in let d = length-map b.shares (λ s. word_of (Shares s)) in omega arith
+
+  pub ban_some : 1 ≤ length ws
+  ban_some = let l = ban_length in omega arith
+
+  pub shares_run : take (span 5 5 (drop 1 ws)) (drop 1 ws) ≡ share_words b.shares
+  shares_run =
+      let n : span 5 5 (drop 1 ws) ≡ end_of 5 5 ws 1 - 1 = omega arith in
+      ap (λ k. take k (drop 1 ws)) n ∙ run_at ws 1 (end_of 5 5 ws 1) (share_words b.shares) (link_words b.links) share_run shares_end
 
 pub shares_read : (place : ℕ) (ws : List ℕ) (n : ℕ) (b : Ban) → BanHere place ws n b → (us : List ℕ) → us ≡ share_words b.shares → map share_of us ≡ b.shares
 shares_read place ws n b h us e = ap (map share_of) e ∙ shares_back n b.shares (let z = h.few in omega arith) h.formed.shares
@@ -65,23 +67,21 @@ pub needs_read : (place : ℕ) (ws : List ℕ) (r : Rule) → RuleHere place ws 
 needs_read place ws r h us e = ap (map link_of) e ∙ links_back r.variables r.needs (omega (arith, six r.variables h.formed.variables)) h.formed.needs.ranges
 
 -- the needs
-module _ (place : ℕ) (ws : List ℕ) (r : Rule) (h : RuleHere place ws r) (from end : ℕ) (f : from ≡ min (length ws) 1) (e : end ≡ end_of 2 3 ws from) where
+module _ (place : ℕ) (ws : List ℕ) (r : Rule) (h : RuleHere place ws r) where
   abbrev others : List ℕ
   others = bans_words r.bans ++ (need_words r.struck_needs ++ (thing_words r.struck_things ++ (makes_words r.makes ++ word_of Ends ∷ [])))
 
-  one_first : from ≡ 1
-  one_first = let a : length ws ≡ length (word_of (Opens r.variables) ∷ (link_words r.needs ++ others)) = ap length h.written in omega arith
+  pub rule_some : 1 ≤ length ws
+  rule_some = let a : length ws ≡ length (word_of (Opens r.variables) ∷ (link_words r.needs ++ others)) = ap length h.written in omega arith
 
-  pub needs_found : take (end - from) (drop from ws) ≡ link_words r.needs
-  needs_found =
+  pub needs_run : take (span 2 3 (drop 1 ws)) (drop 1 ws) ≡ link_words r.needs
+  needs_run =
       let v = h.formed in
       let s = six r.variables v.variables in
-      let d : drop from ws ≡ link_words r.needs ++ others = ap (λ z. drop z ws) one_first ∙ ap (drop 1) h.written in
-      let q : end ≡ from + length (link_words r.needs) = e ∙ end_at 2 3 ws from (link_words r.needs) others d (kinds_links r.variables r.needs (omega arith) v.needs.ranges) (starts_bans r.variables s.1 (length r.needs) r.bans r.struck_needs r.struck_things r.makes v.needs.few v.bans v.struck_needs v.struck_things v.makes) in
-      run_at ws from end (link_words r.needs) others d q
-
-  pub needs_place : (p : ℕ) → p ≡ min (place + 1) (2 ^ 64 - 1) → p ≡ place + 1
-  needs_place p q = let i = h.inside in omega arith
+      let d : drop 1 ws ≡ link_words r.needs ++ others = ap (drop 1) h.written in
+      let q : end_of 2 3 ws 1 ≡ 1 + length (link_words r.needs) = end_at 2 3 ws 1 (link_words r.needs) others d (kinds_links r.variables r.needs (omega arith) v.needs.ranges) (starts_bans r.variables s.1 (length r.needs) r.bans r.struck_needs r.struck_things r.makes v.needs.few v.bans v.struck_needs v.struck_things v.makes) in
+      let n : span 2 3 (drop 1 ws) ≡ end_of 2 3 ws 1 - 1 = omega arith in
+      ap (λ k. take k (drop 1 ws)) n ∙ run_at ws 1 (end_of 2 3 ws 1) (link_words r.needs) others d q
 
 -- bans among the parts
 abbrev NoBan : List Piece → Type 0

@@ -4,6 +4,7 @@ pub mod BanRuns
 pub mod Clean
 pub mod Closing
 pub mod Complete
+pub mod Counted
 pub mod Exactly
 pub mod Keeping
 pub mod KindNumbers

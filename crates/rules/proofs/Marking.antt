@@ -108,7 +108,3 @@ marks_past all i (w ∷ ws) e =
 
 pub marks_after : (ws : List ℕ) → marks_by (λ i w. shares_again (map share_of (take i ws)) (share_of w)) SharesTwice 0 ws ≡ share_marks [] (map share_of ws)
 marks_after ws = marks_past ws 0 ws refl
-
-pub map_twice : {X Y : Type 0} (g : X → Y) (d : ℕ → X) (ws : List ℕ) → map g (map d ws) ≡ map (λ w. g (d w)) ws
-map_twice g d [] = refl
-map_twice g d (w ∷ ws) = ap (λ z. g (d w) ∷ z) (map_twice g d ws)

@@ -1,21 +1,15 @@
-use Rattle.std.proofs.Common.{◌≡◌, ℕ, ◌+◌, ◌<◌, true, false, cond, eqb, List, [], ◌∷◌, ◌++◌, map, length, get_or, drop, Some, None, Option, sym, refl, ap, ◌∙◌, append_assoc, append-nil}
+use Rattle.std.proofs.Common.{◌≡◌, ℕ, ◌+◌, true, false, cond, eqb, List, [], ◌∷◌, ◌++◌, map, length, Some, None, Option, sym, refl, ap, ◌∙◌, append_assoc, append-nil}
 use mathlib.Core.List.{map-append}
-use Rattle.std.proofs.lemmas.List.{at_drop_more, length_push}
-use Rattle.std.proofs.lemmas.Bool.{eq-eqb, ne_eqb, false≢true}
+use Rattle.std.proofs.lemmas.List.{length_push}
+use Rattle.std.proofs.lemmas.Bool.{false≢true}
 use Rattle.words.specs.declared.items.Item.{Item}
 use Rattle.words.specs.declared.items.Item.TheVariants.{Opens, Link, Bans, Shares, StrikesNeed, StrikesThing, Makes, Ends}
 use Rattle.words.specs.declared.items.PatternLink.{PatternLink}
 use Rattle.words.specs.declared.items.Share.{Share}
 use Rattle.words.specs.declared.stages.Stage.TheVariants.{BanReady, BanOpened}
 use Rattle.words.specs.Words.{word_of}
-use Rattle.words.specs.Steps.{has, may, next_of}
+use Rattle.words.specs.Steps.{may, next_of}
 use Rattle.rules.specs.Rules.{Ban, Rule, Head, Partial, outside, in_needs, in_shares, in_links, in_struck_needs, in_struck_things, in_makes, grown, numbers, front, written, encode, rule_words, bans_words, ban_words, link_words, share_words, need_words, thing_words, head_words, head_of, made, Making, makes_words}
-
-pub has_here : (w : ℕ) (ws : List ℕ) (i : ℕ) → i < length ws → get_or ws i 0 ≡ w → has w (drop i ws) ≡ true
-has_here w ws i h e = at_drop_more (has w) ws i 0 h ∙ rw (eq-eqb (get_or ws i 0) w e) refl
-
-pub has_on : (w : ℕ) (ws : List ℕ) (i : ℕ) → i < length ws → (get_or ws i 0 ≡ w → ⊥) → has w (drop i ws) ≡ has w (drop (i + 1) ws)
-has_on w ws i h e = at_drop_more (has w) ws i 0 h ∙ rw (ne_eqb (get_or ws i 0) w e) refl
 
 pub encode_push : (rs : List Rule) (r : Rule) → encode (rs ++ r ∷ []) ≡ encode rs ++ rule_words r
 encode_push [] r = append-nil (rule_words r)

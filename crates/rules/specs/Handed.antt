@@ -11,7 +11,7 @@ use Rattle.rules.specs.declared.parts.Part.{Part}
 use Rattle.rules.specs.declared.parts.Part.TheVariants.{Need as NeedRun, Ban as BanPart, Strike as StrikeRun, Makes as MakesRun}
 use Rattle.rules.specs.Rules.{Ban, Rule, link_words, share_words}
 use Rattle.rules.specs.Runs.{part_of}
-use Rattle.rules.specs.Parts.{Piece, piece_words, pieces_words, piece_number, pieces, RuleHere, BanHere}
+use Rattle.rules.specs.Parts.{Piece, piece_words, pieces_words, piece_number, pieces, RuleAt, BanAt}
 
 -- which part it is, its place, and its words
 abbrev pub part_number : Part → ℕ
@@ -82,11 +82,11 @@ abbrev pub BanIs : ℕ → ℕ → List Ban → Option BanRun → Type 0
 BanIs n place [] None = Unit {0}
 BanIs n place [] (Some q) = ⊥
 BanIs n place (b ∷ bs) None = ⊥
-BanIs n place (b ∷ bs) (Some q) = (q.place ≡ place) × BanHere q.place q.words.now n b
+BanIs n place (b ∷ bs) (Some q) = (q.place ≡ place) × BanAt q n b
 
 -- the first of the rules that are left, none exactly when none is
 abbrev pub RuleIs : ℕ → List Rule → Option RuleRun → Type 0
 RuleIs place [] None = Unit {0}
 RuleIs place [] (Some q) = ⊥
 RuleIs place (r ∷ rs) None = ⊥
-RuleIs place (r ∷ rs) (Some q) = (q.place ≡ place) × RuleHere q.place q.words.now r
+RuleIs place (r ∷ rs) (Some q) = (q.place ≡ place) × RuleAt q r

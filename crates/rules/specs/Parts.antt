@@ -1,6 +1,8 @@
 -- The parts of a rule, in the order of its words.
 use Rattle.std.specs.Prelude.{◌≡◌, ℕ, ◌+◌, ◌≤◌, List, [], ◌∷◌, ◌++◌, map, length, Some, None, Option}
 use Rattle.words.specs.declared.items.PatternLink.{PatternLink}
+use Rattle.rules.specs.declared.bans.BanRun.{BanRun}
+use Rattle.rules.specs.declared.parts.RuleRun.{RuleRun}
 use Rattle.rules.specs.Rules.{Ban, Making, Rule, rule_words, link_words, ban_words, need_words, thing_words, makes_words}
 use Rattle.rules.specs.Formed.{FormedBan, FormedRule}
 
@@ -57,3 +59,11 @@ pub record BanHere (place : ℕ) (ws : List ℕ) (n : ℕ) (b : Ban) : Type 0 wh
   pub few : n ≤ 6
   pub written : ws ≡ ban_words b
   pub inside : place + length ws ≤ 1024
+
+-- the same of a run of words with its place
+abbrev pub RuleAt : RuleRun → Rule → Type 0
+RuleAt q r = RuleHere q.place q.words.now r
+
+-- the same of a ban's words with their place
+abbrev pub BanAt : BanRun → ℕ → Ban → Type 0
+BanAt q n b = BanHere q.place q.words.now n b

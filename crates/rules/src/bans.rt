@@ -1,14 +1,14 @@
 // One ban's words: its variables, which of them are shared, and its links.
 ghost use Rattle.std.specs.Prelude.{◌≡◌, ℕ, ◌+◌, ◌≤◌, length};
 ghost use Rattle.rules.specs.Rules.{Ban};
-ghost use Rattle.rules.specs.Parts.{BanHere};
+ghost use Rattle.rules.specs.Parts.{BanAt};
 ghost use Rattle.rules.specs.Handed.{LinksAre, SharesAre};
 
 use crate::runs::{Run, first_number, run_end};
 use words::Kind;
 
 // One ban's words, and the place of the first.
-#[derive(Clone, Copy)]
+#[derive(Clone, Copy, Debug, PartialEq, Eq)]
 pub struct BanRun<'a> {
     pub place: usize,
     pub words: &'a [u32],
@@ -16,26 +16,25 @@ pub struct BanRun<'a> {
 
 impl<'a> BanRun<'a> {
     pub fn variables(self) -> u32
-        ensures { (n : ℕ) (b : Ban) → BanHere self.entry.place self.entry.words.now n b → result ≡ b.variables }
+        ensures { (n : ℕ) (b : Ban) → BanAt self.entry n b → result ≡ b.variables }
     {
         first_number(self.words)
     }
 
     // A word for each variable.
     pub fn shares(self) -> Run<'a>
-        ensures { (n : ℕ) (b : Ban) → BanHere self.entry.place self.entry.words.now n b → SharesAre (self.entry.place + 1) b.shares result }
+        ensures { (n : ℕ) (b : Ban) → BanAt self.entry n b → SharesAre (self.entry.place + 1) b.shares result }
     {
-        let from = self.words.len().min(1);
-        let end = run_end(self.words, from, Kind::Shares..=Kind::Shares);
         Run {
-            place: self.place.saturating_add(1),
-            words: &self.words[from..end],
+            place: self.place,
+            words: self.words,
         }
+        .after_first(Kind::Shares..=Kind::Shares)
     }
 
     // A word for each link.
     pub fn links(self) -> Run<'a>
-        ensures { (n : ℕ) (b : Ban) → BanHere self.entry.place self.entry.words.now n b → LinksAre (self.entry.place + 1 + length b.shares) b.links result }
+        ensures { (n : ℕ) (b : Ban) → BanAt self.entry n b → LinksAre (self.entry.place + 1 + length b.shares) b.links result }
     {
         let from = self.words.len().min(1);
         let end = run_end(self.words, from, Kind::Shares..=Kind::Shares);

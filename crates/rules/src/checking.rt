@@ -4,7 +4,7 @@ ghost use Rattle.words.specs.Words.{link_of};
 ghost use Rattle.rules.specs.Rules.{Ban, Rule, thing_words};
 ghost use Rattle.rules.specs.Anchors.{some, touches};
 ghost use Rattle.rules.specs.Runs.{within};
-ghost use Rattle.rules.specs.Parts.{RuleHere, BanHere};
+ghost use Rattle.rules.specs.Parts.{RuleAt, BanAt};
 ghost use Rattle.rules.specs.Marks.{passed, first_mark, ban_marks, bans_marks, rule_marks, made_mark, low_of, last_marks, last_place};
 
 use crate::anchors::{check_links, check_shares, is_anchored, shares_any};
@@ -15,7 +15,7 @@ use crate::runs::{Run, is_of, run_end};
 use words::{Kind, PatternLink, RuleFault, Target, low_byte};
 
 fn check_ban(ban: BanRun) -> Result<(), PlacedFault>
-    ensures { (n : ℕ) (b : Ban) → BanHere ban.entry.place ban.entry.words.now n b → result ≡ passed (first_mark ban.entry.place (ban_marks b)) }
+    ensures { (n : ℕ) (b : Ban) → BanAt ban.entry n b → result ≡ passed (first_mark ban.entry.place (ban_marks b)) }
 {
     let shares = ban.shares();
     let links = ban.links();
@@ -36,7 +36,7 @@ fn check_ban(ban: BanRun) -> Result<(), PlacedFault>
 }
 
 fn check_bans(rule: RuleRun) -> Result<(), PlacedFault>
-    ensures { (r : Rule) → RuleHere rule.entry.place rule.entry.words.now r → result ≡ passed (first_mark (rule.entry.place + 1 + length r.needs) (bans_marks r.bans)) }
+    ensures { (r : Rule) → RuleAt rule.entry r → result ≡ passed (first_mark (rule.entry.place + 1 + length r.needs) (bans_marks r.bans)) }
 {
     for i in 0..4 {
         let Some(ban) = rule.ban(i) else {
@@ -49,7 +49,7 @@ fn check_bans(rule: RuleRun) -> Result<(), PlacedFault>
 
 // The word of each struck thing.
 fn struck_things<'a>(rule: RuleRun<'a>) -> &'a [u32]
-    ensures { (r : Rule) → RuleHere rule.entry.place rule.entry.words.now r → result.now ≡ thing_words r.struck_things }
+    ensures { (r : Rule) → RuleAt rule.entry r → result.now ≡ thing_words r.struck_things }
 {
     let from = run_end(rule.words, 0, Kind::Opens..=Kind::StrikesNeed);
     let end = run_end(rule.words, from, Kind::StrikesThing..=Kind::StrikesThing);
@@ -93,7 +93,7 @@ fn check_made(things: &[u32], words: Run) -> Result<(), PlacedFault>
 }
 
 fn check_makes(rule: RuleRun) -> Result<(), PlacedFault>
-    ensures { (r : Rule) → RuleHere rule.entry.place rule.entry.words.now r → result ≡ passed (first_mark (last_place rule.entry.place r) (last_marks r)) }
+    ensures { (r : Rule) → RuleAt rule.entry r → result ≡ passed (first_mark (last_place rule.entry.place r) (last_marks r)) }
 {
     let from = run_end(rule.words, 0, Kind::Opens..=Kind::StrikesThing);
     let rest = Run {
@@ -105,7 +105,7 @@ fn check_makes(rule: RuleRun) -> Result<(), PlacedFault>
 
 // Refuses the first word of a rule that has a fault of the second pass.
 pub fn check_rule(rule: RuleRun) -> Result<(), PlacedFault>
-    ensures { (r : Rule) → RuleHere rule.entry.place rule.entry.words.now r → result ≡ passed (first_mark rule.entry.place (rule_marks r)) }
+    ensures { (r : Rule) → RuleAt rule.entry r → result ≡ passed (first_mark rule.entry.place (rule_marks r)) }
 {
     if !is_anchored(rule.variables(), rule.needs().words) {
         return Err(PlacedFault {

@@ -2,22 +2,22 @@
 ghost use Rattle.std.specs.Prelude.{◌≡◌, ◌+◌, ◌≤◌, length, take, drop};
 ghost use Rattle.rules.specs.Rules.{Rule, rule_words, bans_words};
 ghost use Rattle.rules.specs.Formed.{FormedRule};
-ghost use Rattle.rules.specs.Parts.{RuleHere, pieces, pieces_words};
+ghost use Rattle.rules.specs.Parts.{RuleAt, pieces, pieces_words};
 ghost use Rattle.rules.specs.Handed.{PartAt, PartIs, Cut, BanIs, LinksAre, ban_of};
 
 use crate::bans::BanRun;
-use crate::runs::{Run, first_number, part_end, run_end};
+use crate::runs::{Run, first_number, part_end};
 use words::Kind;
 
 // One rule's words, and the place of the first.
-#[derive(Clone, Copy)]
+#[derive(Clone, Copy, Debug, PartialEq, Eq)]
 pub struct RuleRun<'a> {
     pub place: usize,
     pub words: &'a [u32],
 }
 
 // A part of a rule: all its needs, one ban, all its strikes, or its makes.
-#[derive(Clone, Copy)]
+#[derive(Clone, Copy, Debug, PartialEq, Eq)]
 pub enum Part<'a> {
     Need(Run<'a>),
     Ban(BanRun<'a>),
@@ -27,14 +27,14 @@ pub enum Part<'a> {
 
 impl<'a> RuleRun<'a> {
     pub fn variables(self) -> u32
-        ensures { (r : Rule) → RuleHere self.entry.place self.entry.words.now r → result ≡ r.variables }
+        ensures { (r : Rule) → RuleAt self.entry r → result ≡ r.variables }
     {
         first_number(self.words)
     }
 
     // Part number `i`, counted from 0 in the order of the words; a rule has at most seven.
     pub fn part(self, i: usize) -> Option<Part<'a>>
-        ensures { (r : Rule) → RuleHere self.entry.place self.entry.words.now r → PartIs (self.entry.place + 1 + length (pieces_words (take i (pieces r)))) (drop i (pieces r)) result }
+        ensures { (r : Rule) → RuleAt self.entry r → PartIs (self.entry.place + 1 + length (pieces_words (take i (pieces r)))) (drop i (pieces r)) result }
     {
         if i >= 7 {
             return None;
@@ -46,7 +46,7 @@ impl<'a> RuleRun<'a> {
 
     // Ban number `i`, counted from 0; a rule has at most four.
     pub fn ban(self, i: usize) -> Option<BanRun<'a>>
-        ensures { (r : Rule) → RuleHere self.entry.place self.entry.words.now r → BanIs r.variables (self.entry.place + 1 + length r.needs + length (bans_words (take i r.bans))) (drop i r.bans) result }
+        ensures { (r : Rule) → RuleAt self.entry r → BanIs r.variables (self.entry.place + 1 + length r.needs + length (bans_words (take i r.bans))) (drop i r.bans) result }
     {
         if i >= 4 {
             return None;
@@ -56,14 +56,13 @@ impl<'a> RuleRun<'a> {
 
     // A word for each need.
     pub fn needs(self) -> Run<'a>
-        ensures { (r : Rule) → RuleHere self.entry.place self.entry.words.now r → LinksAre (self.entry.place + 1) r.needs result }
+        ensures { (r : Rule) → RuleAt self.entry r → LinksAre (self.entry.place + 1) r.needs result }
     {
-        let from = self.words.len().min(1);
-        let end = run_end(self.words, from, Kind::LinkToVariable..=Kind::LinkToMark);
         Run {
-            place: self.place.saturating_add(1),
-            words: &self.words[from..end],
+            place: self.place,
+            words: self.words,
         }
+        .after_first(Kind::LinkToVariable..=Kind::LinkToMark)
     }
 }
 
@@ -81,11 +80,7 @@ fn part_start(words: &[u32], i: usize) -> usize
     ensures within { result ≤ length words.now }
     ensures start { (r : Rule) → FormedRule r → words.now ≡ rule_words r → PartAt words.now r i result }
 {
-    let mut at = words.len().min(1);
-    for _ in 0..i {
-        at = part_end(words, at);
-    }
-    at
+    (0..i).fold(words.len().min(1), |at, _| part_end(words, at))
 }
 
 // The part from `at` to `end`, by the kind of its first word.

@@ -2,7 +2,8 @@
 ghost use Rattle.std.specs.Prelude.{◌≡◌, ℕ, ◌+◌, ◌-◌, ◌*◌, ◌%◌, ◌≤◌, Bool, length, take, drop, slice_index};
 ghost use Rattle.std.specs.Range.{range_inclusive_start, range_inclusive_end};
 ghost use Rattle.words.specs.Words.{kind_number};
-ghost use Rattle.rules.specs.Runs.{within, end_of, part_end};
+ghost use Rattle.rules.specs.Runs.{within, span, end_of, part_end};
+ghost use Rattle.rules.specs.Handed.{RunIs};
 ghost use Rattle.rules.specs.Marks.{passed, first_mark, marks_by};
 
 use crate::faults::PlacedFault;
@@ -10,13 +11,25 @@ use std::ops::RangeInclusive;
 use words::{Kind, RuleFault, low_byte};
 
 // Some of the given words, and the place of the first.
-#[derive(Clone, Copy)]
+#[derive(Clone, Copy, Debug, PartialEq, Eq)]
 pub struct Run<'a> {
     pub place: usize,
     pub words: &'a [u32],
 }
 
 impl<'a> Run<'a> {
+    // The words after the first, as far as they are of these kinds.
+    pub fn after_first(self, kinds: RangeInclusive<Kind>) -> Run<'a>
+        ensures { self.entry.place + length self.entry.words.now ≤ 1024 → 1 ≤ length self.entry.words.now → RunIs (self.entry.place + 1) (take (span (kind_number (range_inclusive_start kinds)) (kind_number (range_inclusive_end kinds)) (drop 1 self.entry.words.now)) (drop 1 self.entry.words.now)) result }
+    {
+        let from = self.words.len().min(1);
+        let end = run_end(self.words, from, kinds);
+        Run {
+            place: self.place.saturating_add(1),
+            words: &self.words[from..end],
+        }
+    }
+
     // Refuses the first word that has the fault, as the test says of a word and its number in the run.
     pub fn check_words<F: Fn(usize, u32) -> bool>(
         self,
@@ -56,29 +69,26 @@ pub fn is_of(word: u32, kinds: &RangeInclusive<Kind>) -> bool
     kinds.start().number() <= number && number <= kinds.end().number()
 }
 
-// Where the run of words of these kinds that begins at `from` ends.
+// Where the run of words of these kinds that begins at `from` ends: `from` itself where none begins.
 pub fn run_end(words: &[u32], from: usize, kinds: RangeInclusive<Kind>) -> usize
-    requires { from ≤ length words.now }
-    ensures end { result ≡ end_of (kind_number (range_inclusive_start kinds)) (kind_number (range_inclusive_end kinds)) words.now from }
-    ensures within { (from ≤ result) × (result ≤ length words.now) }
+    ensures end { from ≤ length words.now → result ≡ end_of (kind_number (range_inclusive_start kinds)) (kind_number (range_inclusive_end kinds)) words.now from }
+    ensures within { from ≤ length words.now → (from ≤ result) × (result ≤ length words.now) }
 {
-    let run = words[from..]
-        .iter()
-        .take_while(|word| is_of(**word, &kinds))
-        .count();
-    from + run
+    let Some(more) = words.get(from..) else {
+        return from;
+    };
+    from + more.iter().take_while(|word| is_of(**word, &kinds)).count()
 }
 
 // Where the part of a rule that begins at `at` ends: `at` itself where none begins.
 pub fn part_end(words: &[u32], at: usize) -> usize
-    requires { at ≤ length words.now }
-    ensures end { result ≡ part_end words.now at }
-    ensures within { (at ≤ result) × (result ≤ length words.now) }
+    ensures end { at ≤ length words.now → result ≡ part_end words.now at }
+    ensures within { at ≤ length words.now → (at ≤ result) × (result ≤ length words.now) }
 {
-    if at == words.len() {
+    let Some(word) = words.get(at) else {
         return at;
-    }
-    match Kind::of(words[at]) {
+    };
+    match Kind::of(*word) {
         Some(Kind::LinkToVariable | Kind::LinkToMark) => {
             run_end(words, at, Kind::LinkToVariable..=Kind::LinkToMark)
         }

@@ -12,7 +12,7 @@ use crate::runs::run_end;
 use words::Kind;
 
 // The words of a rule set, and how many rules they say.
-#[derive(Clone, Copy)]
+#[derive(Clone, Copy, Debug, PartialEq, Eq)]
 pub struct RuleSet<'a> {
     pub words: &'a [u32],
     pub rules: usize,
@@ -37,9 +37,8 @@ impl<'a> RuleSet<'a> {
 
 // Where the rule that begins at `at` ends: after the next word that ends one.
 fn rule_end(words: &[u32], at: usize) -> usize
-    requires { at ≤ length words.now }
-    ensures end { result ≡ rule_end words.now at }
-    ensures within { (at ≤ result) × (result ≤ length words.now) }
+    ensures end { at ≤ length words.now → result ≡ rule_end words.now at }
+    ensures within { at ≤ length words.now → (at ≤ result) × (result ≤ length words.now) }
 {
     let last = run_end(words, at, Kind::Opens..=Kind::Makes);
     if last < words.len() { last + 1 } else { last }
@@ -50,9 +49,5 @@ fn rule_start(words: &[u32], i: usize) -> usize
     ensures within { result ≤ length words.now }
     ensures start { (rs : List Rule) → AllByRecursion FormedRule rs → words.now ≡ encode rs → RuleStart words.now rs i result }
 {
-    let mut at = 0;
-    for _ in 0..i {
-        at = rule_end(words, at);
-    }
-    at
+    (0..i).fold(0, |at, _| rule_end(words, at))
 }

@@ -32,10 +32,11 @@ impl Commissioning {
     pub fn ask(plate: u32, life: u32, rows: u32) -> Result<Terms, HubRefusal>
         ensures { Asked plate life rows result }
     {
-        if life < 1 || life > 268435455 || rows < 1 || rows > 1024 {
-            return Err(HubRefusal::OutOfRange);
+        if (1..=268435455).contains(&life) && (1..=1024).contains(&rows) {
+            Ok(Terms { plate, life, rows })
+        } else {
+            Err(HubRefusal::OutOfRange)
         }
-        Ok(Terms { plate, life, rows })
     }
 
     // A hub with no rules.
@@ -87,7 +88,7 @@ impl Commissioning {
         if out.len() < count {
             return Err(WriteRefusal::Short);
         }
-        out[0..count].copy_from_slice(words);
+        out[..count].copy_from_slice(words);
         Ok(count)
     }
 }

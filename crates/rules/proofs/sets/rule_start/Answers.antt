@@ -1,12 +1,20 @@
-use Rattle.std.proofs.Common.{arith}
+use Rattle.std.proofs.Common.{◌≡◌, ◌≤◌, List, length, rules, arith}
+use Rattle.std.specs.List.{AllByRecursion}
+use Rattle.rules.specs.Rules.{Rule, encode}
+use Rattle.rules.specs.Formed.{FormedRule}
+use Rattle.rules.specs.Runs.{rule_end}
+use Rattle.rules.specs.Sets.{RuleStart}
+use Rattle.rules.proofs.Counted.{after_steps}
 use Rattle.rules.proofs.SetRuns.{rule_first, rule_more}
 use Rattle.rules.proofs.sets.rule_start.Goals as goal
 
-pub loop-init : goal.loop-init
-loop-init c = (omega arith, λ rs f e. rule_first c.args.words.now rs e)
-
-pub loop-preserved : goal.loop-preserved
-loop-preserved c = (
-  c.rule_end-at.ensures.within.1,
-  λ rs f e. rule_more c.args.words.now rs f c.loop.counter c.loop.at (c.loop.invariant.1 rs f e) c.loop.invariant.0 c.rule_end-at.result c.rule_end-at.ensures.end,
-)
+pub returns : goal.returns
+returns c =
+    let ws = c.args.words.now in
+    let k = after_steps _ (λ n at. (at ≤ length ws) × ((rs : List Rule) → AllByRecursion FormedRule rs → ws ≡ encode rs → RuleStart ws rs n at)) _
+    (λ n at x b f' j k.
+    let e : at ≤ length ws → b ≡ rule_end ws at = search rules in
+    let w : at ≤ length ws → (at ≤ b) × (b ≤ length ws) = search rules in
+    (((w j.0).1, λ rs f q. rule_more ws rs f n at (j.1 rs f q) j.0 b (e j.0)), search rules))
+    _ c.args.i 0 c.fold.result (cc) (omega arith, λ rs f q. rule_first ws rs q) c.fold.ensures.ran in
+    record { within = k.0; start = k.1 }

@@ -1,9 +1,13 @@
-use Rattle.rules.proofs.KindNumbers.{end_by}
-use Rattle.rules.proofs.BanRuns.{shares_found, shares_place, shares_read}
+use Rattle.std.proofs.Common.{◌+◌, drop, ◌∙◌}
+use Rattle.rules.proofs.BanRuns.{ban_some, shares_run, shares_read}
+use Rattle.rules.proofs.KindNumbers.{run_by}
 use Rattle.rules.proofs.bans.BanRun.shares.Goals as goal
 
 pub returns : goal.returns
 returns c =
     λ n b h.
-    let w = shares_found c.args.self.place c.args.self.words.now n b h c.min-from.result c.run_end-end.result c.min-from.ensures (end_by c.new.result c.min-from.result c.args.self.words.now c.new.ensures.start c.new.ensures.end c.run_end-end.ensures.end) in
-    ((shares_place c.args.self.place c.args.self.words.now n b h c.min-from.result c.run_end-end.result c.min-from.ensures (end_by c.new.result c.min-from.result c.args.self.words.now c.new.ensures.start c.new.ensures.end c.run_end-end.ensures.end) c.saturating_add.result c.saturating_add.ensures, w), shares_read c.args.self.place c.args.self.words.now n b h _ w)
+    let place = c.args.self.place in
+    let ws = c.args.self.words.now in
+    let q = run_by c.new.result (place + 1) (drop 1 ws) c.after_first.result c.new.ensures.start c.new.ensures.end (c.after_first.ensures h.inside (ban_some place ws n b h)) in
+    let w = q.1 ∙ shares_run place ws n b h in
+    ((q.0, w), shares_read place ws n b h _ w)

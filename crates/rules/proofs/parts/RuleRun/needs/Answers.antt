@@ -1,9 +1,13 @@
-use Rattle.rules.proofs.KindNumbers.{end_by}
-use Rattle.rules.proofs.BanRuns.{needs_found, needs_place, needs_read}
+use Rattle.std.proofs.Common.{◌+◌, drop, ◌∙◌}
+use Rattle.rules.proofs.BanRuns.{rule_some, needs_run, needs_read}
+use Rattle.rules.proofs.KindNumbers.{run_by}
 use Rattle.rules.proofs.parts.RuleRun.needs.Goals as goal
 
 pub returns : goal.returns
 returns c =
     λ r h.
-    let w = needs_found c.args.self.place c.args.self.words.now r h c.min-from.result c.run_end-end.result c.min-from.ensures (end_by c.new.result c.min-from.result c.args.self.words.now c.new.ensures.start c.new.ensures.end c.run_end-end.ensures.end) in
-    ((needs_place c.args.self.place c.args.self.words.now r h c.min-from.result c.run_end-end.result c.min-from.ensures (end_by c.new.result c.min-from.result c.args.self.words.now c.new.ensures.start c.new.ensures.end c.run_end-end.ensures.end) c.saturating_add.result c.saturating_add.ensures, w), needs_read c.args.self.place c.args.self.words.now r h _ w)
+    let place = c.args.self.place in
+    let ws = c.args.self.words.now in
+    let q = run_by c.new.result (place + 1) (drop 1 ws) c.after_first.result c.new.ensures.start c.new.ensures.end (c.after_first.ensures h.inside (rule_some place ws r h)) in
+    let w = q.1 ∙ needs_run place ws r h in
+    ((q.0, w), needs_read place ws r h _ w)

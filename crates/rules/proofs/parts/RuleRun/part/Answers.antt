@@ -8,4 +8,4 @@ returns-then-i-ge7 c = λ r h. none_left r c.args.i (c.args.self.place + 1 + len
 
 pub returns : goal.returns
 returns c =
-    λ r h. part_handed c.args.self.words.now r h.formed c.args.i c.part_start-at.result (c.part_start-at.ensures.start r h.formed h.written) c.args.self.place c.part_end-end.result h.inside c.part_end-end.ensures.end c.part_start-at.ensures.within c.cut.result c.cut.ensures
+    λ r h. part_handed c.args.self.words.now r h.formed c.args.i c.part_start-at.result (c.part_start-at.ensures.start r h.formed h.written) c.args.self.place c.part_end-end.result h.inside (c.part_end-end.ensures.end c.part_start-at.ensures.within) c.part_start-at.ensures.within c.cut.result c.cut.ensures

@@ -1,18 +1,17 @@
 -- What a command is answered, and what it leaves.
-use Rattle.std.specs.Prelude.{◌≡◌, ℕ, ◌≤◌, List, [], length, Some, None, Ok, Err, Option, Result}
+use Rattle.std.specs.Prelude.{◌≡◌, ℕ, ◌≤◌, [], length, Some, None, Ok, Err, Option, Result}
 use Rattle.hub.specs.declared.refusals.ReadRefusal.{ReadRefusal}
 use Rattle.hub.specs.declared.refusals.ReadRefusal.TheVariants as reading
 use Rattle.hub.specs.declared.refusals.HubRefusal.{HubRefusal}
 use Rattle.hub.specs.declared.commissioning.Commissioning.{Commissioning}
 use Rattle.hub.specs.Calls.{InRange as HubInRange, held_words}
 use Rattle.hub.specs.Numbers.{ask_number, write_number}
-use Rattle.links.specs.declared.link.Link.{Link}
 use Rattle.links.specs.declared.make_refusal.MakeRefusal.{MakeRefusal}
 use Rattle.links.specs.declared.make_refusal.MakeRefusal.TheVariants.{OutOfRange}
 use Rattle.links.specs.declared.switch_refusal.SwitchRefusal.{SwitchRefusal}
-use Rattle.links.specs.Answers.{Least, Spare as Untouched, Switched, off_refusal, on_refusal}
+use Rattle.links.specs.Answers.{Least, Spare as Untouched, SwitchedOff, SwitchedOn}
 use Rattle.links.specs.Numbers.{make_number, switch_number}
-use Rattle.links.specs.Sets.{InRange, inserted, link_of, member, removed}
+use Rattle.links.specs.Sets.{InRange, KeepsSizes, LinkSet, Within, link_of, member}
 use Rattle.matching.specs.Survey.{survey_number}
 use Rattle.bit_store.specs.Places.{words_for}
 use Rattle.shell.specs.declared.answer.Answer.{Answer}
@@ -70,15 +69,15 @@ hub_call_of (Ok (command.Use c)) = None
 hub_call_of (Ok command.Settle) = None
 hub_call_of (Err m) = None
 
--- What a call is answered by a store of so many things and links at most that holds the links, and which links it leaves.
-abbrev pub Served : ℕ → ℕ → List Link → Call → Answer → List Link → Type 0
-Served things limit ls (On l) a after = (r : Result (Unit {0}) SwitchRefusal) × (a ≡ switch_answer r) × Switched (on_refusal things limit ls l) ls (inserted l ls) r after
-Served things limit ls (Off l) a after = (r : Result (Unit {0}) SwitchRefusal) × (a ≡ switch_answer r) × Switched (off_refusal things ls l) ls (removed l ls) r after
-Served things limit ls (Is l) a after = (a ≡ Test (member l ls)) × (after ≡ ls)
-Served things limit ls (Target q) a after = ((r : Option ℕ) × (a ≡ number_answer r) × Least (λ t. member (link_of q.node q.label t) ls) q.from r) × (after ≡ ls)
-Served things limit ls (Source q) a after = ((r : Option ℕ) × (a ≡ number_answer r) × Least (λ s. member (link_of s q.label q.node) ls) q.from r) × (after ≡ ls)
-Served things limit ls Count a after = (a ≡ Number (length ls)) × (after ≡ ls)
-Served things limit ls Spare a after = ((r : Option ℕ) × (a ≡ number_answer r) × Untouched things ls r) × (after ≡ ls)
+-- What a call is answered by a store that means the set, and the set that it leaves.
+abbrev pub Served : LinkSet → Call → Answer → LinkSet → Type 0
+Served g (On l) a after = (r : Result (Unit {0}) SwitchRefusal) × (a ≡ switch_answer r) × SwitchedOn l g r after
+Served g (Off l) a after = (r : Result (Unit {0}) SwitchRefusal) × (a ≡ switch_answer r) × SwitchedOff l g r after
+Served g (Is l) a after = (a ≡ Test (member l g.links)) × (after ≡ g)
+Served g (Target q) a after = ((r : Option ℕ) × (a ≡ number_answer r) × Least (λ t. member (link_of q.node q.label t) g.links) q.from r) × (after ≡ g)
+Served g (Source q) a after = ((r : Option ℕ) × (a ≡ number_answer r) × Least (λ s. member (link_of s q.label q.node) g.links) q.from r) × (after ≡ g)
+Served g Count a after = (a ≡ Number (length g.links)) × (after ≡ g)
+Served g Spare a after = ((r : Option ℕ) × (a ≡ number_answer r) × Untouched g r) × (after ≡ g)
 
 -- the memory, where it is told, has at least so many places
 abbrev pub Enough : ℕ → Option ℕ → Type 0
@@ -112,19 +111,19 @@ RepliedAlone (Ok (command.Hub c)) r = (r.answer ≡ Unknown NoHub) × (r.plan �
 RepliedAlone (Ok command.Settle) r = (r.answer ≡ Unknown Store) × (r.plan ≡ None)
 RepliedAlone (Err m) r = (r.answer ≡ Unknown m) × (r.plan ≡ None)
 
--- The reply to a line with a store in hand that has no layer, and the links that it leaves.
-abbrev pub Replied : ℕ → ℕ → List Link → Result Command Missing → Reply → List Link → Type 0
-Replied things limit ls (Ok (command.Make w)) r after = RepliedWanted w r.answer r.plan × (after ≡ ls)
-Replied things limit ls (Ok (command.Use c)) r after = Served things limit ls c r.answer after × (r.plan ≡ None)
-Replied things limit ls (Ok (command.Hub c)) r after = (r.answer ≡ Unknown NoHub) × (r.plan ≡ None) × (after ≡ ls)
-Replied things limit ls (Ok command.Settle) r after = (r.answer ≡ Unknown Layer) × (r.plan ≡ None) × (after ≡ ls)
-Replied things limit ls (Err m) r after = (r.answer ≡ Unknown m) × (r.plan ≡ None) × (after ≡ ls)
+-- The reply to a line with a store in hand that has no layer, and the set that it leaves.
+abbrev pub Replied : LinkSet → Result Command Missing → Reply → LinkSet → Type 0
+Replied g (Ok (command.Make w)) r after = RepliedWanted w r.answer r.plan × (after ≡ g)
+Replied g (Ok (command.Use c)) r after = Served g c r.answer after × (r.plan ≡ None)
+Replied g (Ok (command.Hub c)) r after = (r.answer ≡ Unknown NoHub) × (r.plan ≡ None) × (after ≡ g)
+Replied g (Ok command.Settle) r after = (r.answer ≡ Unknown Layer) × (r.plan ≡ None) × (after ≡ g)
+Replied g (Err m) r after = (r.answer ≡ Unknown m) × (r.plan ≡ None) × (after ≡ g)
 
--- The reply to a line with a layer in hand that holds so many changes, the links that it leaves and how many changes are held then.
--- Settling tells their number, leaves none, and leaves the set as it is where that is within its limit.
-abbrev pub RepliedHeld : ℕ → ℕ → List Link → ℕ → Result Command Missing → Reply → List Link → ℕ → Type 0
-RepliedHeld things limit ls held (Ok (command.Make w)) r after left = RepliedWanted w r.answer r.plan × (after ≡ ls) × (left ≡ held)
-RepliedHeld things limit ls held (Ok (command.Use c)) r after left = Served things limit ls c r.answer after × (r.plan ≡ None)
-RepliedHeld things limit ls held (Ok command.Settle) r after left = (r.answer ≡ Number held) × (r.plan ≡ None) × (left ≡ 0) × (length ls ≤ limit → after ≡ ls)
-RepliedHeld things limit ls held (Ok (command.Hub c)) r after left = (r.answer ≡ Unknown NoHub) × (r.plan ≡ None) × (after ≡ ls) × (left ≡ held)
-RepliedHeld things limit ls held (Err m) r after left = (r.answer ≡ Unknown m) × (r.plan ≡ None) × (after ≡ ls) × (left ≡ held)
+-- The reply to a line with a layer in hand that holds so many changes, the set that it leaves and how many changes are held then.
+-- Settling tells their number, leaves none, and leaves the set as it is where that is within its limit; the sizes stay.
+abbrev pub RepliedHeld : LinkSet → ℕ → Result Command Missing → Reply → LinkSet → ℕ → Type 0
+RepliedHeld g held (Ok (command.Make w)) r after left = RepliedWanted w r.answer r.plan × (after ≡ g) × (left ≡ held)
+RepliedHeld g held (Ok (command.Use c)) r after left = Served g c r.answer after × (r.plan ≡ None)
+RepliedHeld g held (Ok command.Settle) r after left = (r.answer ≡ Number held) × (r.plan ≡ None) × (left ≡ 0) × (Within g → after ≡ g) × KeepsSizes g after
+RepliedHeld g held (Ok (command.Hub c)) r after left = (r.answer ≡ Unknown NoHub) × (r.plan ≡ None) × (after ≡ g) × (left ≡ held)
+RepliedHeld g held (Err m) r after left = (r.answer ≡ Unknown m) × (r.plan ≡ None) × (after ≡ g) × (left ≡ held)

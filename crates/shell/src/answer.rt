@@ -1,17 +1,17 @@
 ghost use Rattle.std.specs.Prelude.{◌≡◌, Some};
-ghost use Rattle.shell.specs.Answers.{refusal_number};
-ghost use Rattle.shell.specs.Texts.{answer_text, hub_text, layer_text, make_text, refusal_text, survey_text, switch_text, write_text};
+ghost use Rattle.shell.specs.Answers.{number_answer, refusal_number, rules_answer, switch_answer};
+ghost use Rattle.shell.specs.Texts.{answer_text, refusal_text};
+ghost use Rattle.shell.specs.declared.answer.Refusal.TheVariants as refusal;
 
 use commands::Missing;
-use hub::{HubRefusal, WriteRefusal};
+use hub::{HubRefusal, ReadRefusal, WriteRefusal};
 use links::{MakeRefusal, SwitchRefusal};
 use matching::SurveyRefusal;
 use rules::SetFault;
 use std::fmt;
-use words::Layer;
 
 // What a command is answered.
-#[derive(Clone, Copy)]
+#[derive(Clone, Copy, PartialEq, Eq, Debug)]
 pub enum Answer {
     Taken,
     Test(bool),
@@ -24,7 +24,7 @@ pub enum Answer {
 }
 
 // A refusal of any layer.
-#[derive(Clone, Copy)]
+#[derive(Clone, Copy, PartialEq, Eq, Debug)]
 pub enum Refusal {
     Make(MakeRefusal),
     Switch(SwitchRefusal),
@@ -45,71 +45,96 @@ impl Refusal {
             Refusal::Survey(refusal) => refusal.number(),
         }
     }
+}
 
-    fn text(self) -> &'static str
-        ensures { result.now ≡ refusal_text self }
-    {
-        match self {
-            Refusal::Make(refusal) => make_text(refusal),
-            Refusal::Switch(refusal) => switch_text(refusal),
-            Refusal::Hub(refusal) => hub_text(refusal),
-            Refusal::Write(refusal) => write_text(refusal),
-            Refusal::Survey(refusal) => survey_text(refusal),
+impl fmt::Display for Refusal {
+    ghost output = { λ e. Some (refusal_text e) };
+
+    fn fmt<W: fmt::Write>(&self, f: &mut fmt::Formatter<W>) -> fmt::Result {
+        match *self {
+            Refusal::Make(refusal) => write!(f, "{refusal}"),
+            Refusal::Switch(refusal) => write!(f, "{refusal}"),
+            Refusal::Hub(refusal) => write!(f, "{refusal}"),
+            Refusal::Write(refusal) => write!(f, "{refusal}"),
+            Refusal::Survey(refusal) => write!(f, "{refusal}"),
         }
     }
 }
 
-fn make_text(refusal: MakeRefusal) -> &'static str
-    ensures { result.now ≡ make_text refusal }
-{
-    match refusal {
-        MakeRefusal::OutOfRange => "out of range",
+impl From<MakeRefusal> for Refusal {
+    ghost from_gives = { λ x y. y ≡ refusal.Make x };
+
+    fn from(refusal: MakeRefusal) -> Refusal {
+        Refusal::Make(refusal)
     }
 }
 
-fn switch_text(refusal: SwitchRefusal) -> &'static str
-    ensures { result.now ≡ switch_text refusal }
-{
-    match refusal {
-        SwitchRefusal::NoSuchLink => "no such link",
-        SwitchRefusal::AlreadyOn => "already on",
-        SwitchRefusal::NotOn => "not on",
-        SwitchRefusal::Full => "full",
+impl From<SwitchRefusal> for Refusal {
+    ghost from_gives = { λ x y. y ≡ refusal.Switch x };
+
+    fn from(refusal: SwitchRefusal) -> Refusal {
+        Refusal::Switch(refusal)
     }
 }
 
-fn hub_text(refusal: HubRefusal) -> &'static str
-    ensures { result.now ≡ hub_text refusal }
-{
-    match refusal {
-        HubRefusal::OutOfRange => "out of range",
+impl From<HubRefusal> for Refusal {
+    ghost from_gives = { λ x y. y ≡ refusal.Hub x };
+
+    fn from(refusal: HubRefusal) -> Refusal {
+        Refusal::Hub(refusal)
     }
 }
 
-fn write_text(refusal: WriteRefusal) -> &'static str
-    ensures { result.now ≡ write_text refusal }
-{
-    match refusal {
-        WriteRefusal::Short => "buffer too short",
+impl From<WriteRefusal> for Refusal {
+    ghost from_gives = { λ x y. y ≡ refusal.Write x };
+
+    fn from(refusal: WriteRefusal) -> Refusal {
+        Refusal::Write(refusal)
     }
 }
 
-fn survey_text(refusal: SurveyRefusal) -> &'static str
-    ensures { result.now ≡ survey_text refusal }
-{
-    match refusal {
-        SurveyRefusal::NoSuchRule => "no such rule",
-        SurveyRefusal::BufferTooShort => "buffer too short",
+impl From<SurveyRefusal> for Refusal {
+    ghost from_gives = { λ x y. y ≡ refusal.Survey x };
+
+    fn from(refusal: SurveyRefusal) -> Refusal {
+        Refusal::Survey(refusal)
     }
 }
 
-fn layer_text(layer: Layer) -> &'static str
-    ensures { result.now ≡ layer_text layer }
-{
-    match layer {
-        Layer::Word => "word",
-        Layer::Rule => "rule",
-        Layer::Set => "set",
+// What a switching is answered.
+impl From<Result<(), SwitchRefusal>> for Answer {
+    ghost from_gives = { λ res answer. answer ≡ switch_answer res };
+
+    fn from(res: Result<(), SwitchRefusal>) -> Answer {
+        match res {
+            Ok(()) => Answer::Taken,
+            Err(refusal) => Answer::Refused(refusal.into()),
+        }
+    }
+}
+
+// What a question for a node is answered.
+impl From<Option<u32>> for Answer {
+    ghost from_gives = { λ number answer. answer ≡ number_answer number };
+
+    fn from(number: Option<u32>) -> Answer {
+        match number {
+            Some(number) => Answer::Number(number as usize),
+            None => Answer::Nothing,
+        }
+    }
+}
+
+// What the reading of a rule set is answered.
+impl From<Result<usize, ReadRefusal>> for Answer {
+    ghost from_gives = { λ res answer. answer ≡ rules_answer res };
+
+    fn from(res: Result<usize, ReadRefusal>) -> Answer {
+        match res {
+            Ok(rules) => Answer::Number(rules),
+            Err(ReadRefusal::Fault(fault)) => Answer::Fault(fault),
+            Err(ReadRefusal::NoMemory) => Answer::NoMemory,
+        }
     }
 }
 
@@ -125,21 +150,17 @@ impl fmt::Display for Answer {
             Answer::Nothing => f.write_str("none"),
             Answer::Refused(refusal) => {
                 let number = refusal.number();
-                let text = refusal.text();
-                write!(f, "refused {number} {text}")
+                write!(f, "refused {number} {refusal}")
             }
             Answer::Fault(fault) => {
                 let number = fault.number();
                 let place = fault.place;
                 let rule = fault.rule;
-                let layer = layer_text(fault.layer());
+                let layer = fault.layer();
                 write!(f, "fault {number} place {place} rule {rule} layer {layer}")
             }
             Answer::NoMemory => f.write_str("refused for want of memory"),
-            Answer::Unknown(missing) => {
-                let text = missing.text();
-                write!(f, "unknown {text}")
-            }
+            Answer::Unknown(missing) => write!(f, "unknown {missing}"),
         }
     }
 }

@@ -1,16 +1,15 @@
-// The hub that the console commissions, and the lines that go to it.
-ghost use Rattle.std.specs.Prelude.{◌≡◌};
-ghost use Rattle.shell.specs.Answers.{Commissioned, rules_answer};
+// The hub that the console commissions, and the calls that go to it.
+ghost use Rattle.std.specs.Prelude.{None};
+ghost use Rattle.shell.specs.Answers.{Commissioned};
 
-use crate::answer::{Answer, Refusal};
-use crate::session::Session;
-use commands::{HubCall, Missing, Survey, WantedHub, cut_word, parse_word};
-use hub::{Commissioning, HubRefusal, ReadRefusal};
+use crate::answer::Answer;
+use crate::service::Service;
+use commands::{HubCall, Missing, Survey, WantedHub, Words, parse_word};
+use hub::{Commissioning, HubRefusal};
 use links::Links;
 use matching::survey;
 use std::alloc::{AllocError, Global};
-use std::io;
-use std::io::{BufRead, Write};
+use std::fmt;
 
 // The room of a buffer where the line tells none.
 const ROOM: u32 = 4096;
@@ -22,7 +21,30 @@ const MOST_WORDS: u32 = 1024;
 pub struct Desk {
     heap: Global,
     hub: Option<Commissioning>,
-    words: Vec<u32>,
+}
+
+// What a call to the hub gives: an answer, or words that are taken.
+#[derive(Drop)]
+pub enum Response {
+    Answer(Answer),
+    Words(Vec<u32>),
+}
+
+impl fmt::Display for Response {
+    ghost output = { λ _. None };
+
+    fn fmt<W: fmt::Write>(&self, f: &mut fmt::Formatter<W>) -> fmt::Result {
+        match self {
+            Response::Answer(answer) => write!(f, "{answer}"),
+            Response::Words(words) => {
+                f.write_str("taken")?;
+                for word in words {
+                    write!(f, " {word:08X}")?;
+                }
+                Ok(())
+            }
+        }
+    }
 }
 
 fn commission(heap: Global, wanted: WantedHub) -> Result<Commissioning, HubRefusal>
@@ -32,41 +54,21 @@ fn commission(heap: Global, wanted: WantedHub) -> Result<Commissioning, HubRefus
     Ok(Commissioning::new(heap, terms))
 }
 
-fn rules_answer(res: Result<usize, ReadRefusal>) -> Answer
-    ensures { result ≡ rules_answer res }
-{
-    match res {
-        Ok(rules) => Answer::Number(rules),
-        Err(ReadRefusal::Fault(fault)) => Answer::Fault(fault),
-        Err(ReadRefusal::NoMemory) => Answer::NoMemory,
-    }
-}
-
-// Takes the words that a text writes; false where it writes something else.
-fn take_words(text: &[u8], words: &mut Vec<u32>) -> Result<bool, AllocError> {
-    words.clear();
-    let mut rest = text;
-    for _ in 0..text.len() {
-        let cut = cut_word(rest);
-        if cut.word.is_empty() {
-            break;
-        }
-        let Some(word) = parse_word(cut.word) else {
-            return Ok(false);
+// The words that a line writes behind its first, none where it writes something else.
+fn words_of(heap: Global, line: &[u8]) -> Result<Option<Vec<u32>>, AllocError> {
+    let mut words = Vec::new(heap);
+    for text in (Words { text: line }).skip(1) {
+        let Some(word) = parse_word(text) else {
+            return Ok(None);
         };
         words.push(word)?;
-        rest = cut.rest;
     }
-    Ok(true)
+    Ok(Some(words))
 }
 
 impl Desk {
     pub fn new(heap: Global) -> Desk {
-        Desk {
-            heap,
-            hub: None,
-            words: Vec::new(heap),
-        }
+        Desk { heap, hub: None }
     }
 
     // A hub that is refused leaves the one before.
@@ -76,7 +78,7 @@ impl Desk {
                 self.hub = Some(hub);
                 Answer::Taken
             }
-            Err(refusal) => Answer::Refused(Refusal::Hub(refusal)),
+            Err(refusal) => Answer::Refused(refusal.into()),
         }
     }
 
@@ -84,64 +86,55 @@ impl Desk {
         let Some(hub) = &mut self.hub else {
             return Ok(Answer::Unknown(Missing::Hub));
         };
-        if !take_words(cut_word(line).rest, &mut self.words)? {
+        let Some(words) = words_of(self.heap, line)? else {
             return Ok(Answer::Unknown(Missing::Word));
-        }
-        Ok(rules_answer(hub.read_rules(self.words.as_slice())))
+        };
+        Ok(hub.read_rules(words.as_slice()).into())
     }
 
-    fn write_rules<R: BufRead, W: Write>(
-        &self,
-        session: &mut Session<R, W>,
-        room: u32,
-    ) -> io::Result<()> {
+    fn write_rules(&self, room: u32) -> Result<Response, AllocError> {
         let Some(hub) = &self.hub else {
-            return session.say(Answer::Unknown(Missing::Hub));
+            return Ok(Response::Answer(Answer::Unknown(Missing::Hub)));
         };
         let mut out = vec![in self.heap; 0u32; room.min(MOST_WORDS) as usize]?;
         match hub.write_rules(out.as_mut_slice()) {
-            Ok(count) => session.say_words(&out.as_slice()[0..count]),
-            Err(refusal) => session.say(Answer::Refused(Refusal::Write(refusal))),
+            Ok(count) => {
+                out.truncate(count);
+                Ok(Response::Words(out))
+            }
+            Err(refusal) => Ok(Response::Answer(Answer::Refused(refusal.into()))),
         }
     }
 
     // Surveys a rule of the set that was read last.
-    pub fn survey<L: Links, R: BufRead, W: Write>(
-        &self,
-        session: &mut Session<R, W>,
-        graph: &L,
-        wanted: Survey,
-    ) -> io::Result<()> {
+    pub fn survey<L: Links>(&self, graph: &L, wanted: Survey) -> Response {
         let Some(hub) = &self.hub else {
-            return session.say(Answer::Unknown(Missing::Hub));
+            return Response::Answer(Answer::Unknown(Missing::Hub));
         };
         let room = wanted.room.unwrap_or(ROOM) as usize;
         let Ok(mut out) = vec![in self.heap; 0u32; room] else {
-            return session.say(Answer::NoMemory);
+            return Response::Answer(Answer::NoMemory);
         };
         match survey(graph, hub.rules(), wanted.rule as usize, out.as_mut_slice()) {
-            Ok(count) => session.say_words(&out.as_slice()[0..count]),
-            Err(refusal) => session.say(Answer::Refused(Refusal::Survey(refusal))),
+            Ok(count) => {
+                out.truncate(count);
+                Response::Words(out)
+            }
+            Err(refusal) => Response::Answer(Answer::Refused(refusal.into())),
         }
     }
 
-    // Serves what needs no store.
-    pub fn serve<R: BufRead, W: Write>(
+    pub fn serve<S: Service>(
         &mut self,
-        session: &mut Session<R, W>,
+        service: &S,
         call: HubCall,
-    ) -> io::Result<()> {
+        line: &[u8],
+    ) -> Result<Response, AllocError> {
         match call {
-            HubCall::Commission(wanted) => {
-                let answer = self.commission(wanted);
-                session.say(answer)
-            }
-            HubCall::Rules => {
-                let answer = self.read_rules(session.line())?;
-                session.say(answer)
-            }
-            HubCall::Write(room) => self.write_rules(session, room),
-            HubCall::Survey(_) => session.say(Answer::Unknown(Missing::Store)),
+            HubCall::Commission(wanted) => Ok(Response::Answer(self.commission(wanted))),
+            HubCall::Rules => Ok(Response::Answer(self.read_rules(line)?)),
+            HubCall::Write(room) => self.write_rules(room),
+            HubCall::Survey(wanted) => Ok(service.survey(self, wanted)),
         }
     }
 }

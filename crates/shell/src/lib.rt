@@ -5,6 +5,7 @@ mod answer;
 mod commissioning;
 mod replying;
 mod running;
+mod service;
 mod serving;
 mod session;
 

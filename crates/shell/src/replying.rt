@@ -4,7 +4,7 @@ ghost use Rattle.held_store.specs.Layers.{held_in};
 ghost use Rattle.held_store.specs.Meaning.{layer_of, set_of};
 ghost use Rattle.commands.specs.Commands.{command_of};
 
-use crate::answer::{Answer, Refusal};
+use crate::answer::Answer;
 use crate::serving::{Plan, plan_for, serve};
 use commands::{Command, HubCall, Missing, Wanted, read_command};
 use held_store::HeldStore;
@@ -32,7 +32,7 @@ fn reply_to_wanted(wanted: Wanted) -> Reply
             answer: Answer::Taken,
             plan: Some(plan),
         },
-        Err(refusal) => answered(Answer::Refused(Refusal::Make(refusal))),
+        Err(refusal) => answered(Answer::Refused(refusal.into())),
     }
 }
 
@@ -61,9 +61,7 @@ pub fn reply_alone(line: &[u8]) -> Reply
 
 // The reply to a line with a store in hand that has no layer, and no hub.
 pub fn reply_with<S: Store>(store: &mut S, line: &[u8]) -> Reply
-    ensures links { Replied (S.Links.things store.old) (S.Links.limit store.old) (S.Links.links store.old) (command_of line.now) result (S.Links.links store.new) }
-    ensures things { S.Links.things store.new ≡ S.Links.things store.old }
-    ensures limit { S.Links.limit store.new ≡ S.Links.limit store.old }
+    ensures { Replied (S.Links.set store.old) (command_of line.now) result (S.Links.set store.new) }
 {
     match read_command(line) {
         Ok(Command::Make(wanted)) => reply_to_wanted(wanted),
@@ -76,9 +74,7 @@ pub fn reply_with<S: Store>(store: &mut S, line: &[u8]) -> Reply
 
 // The reply to a line with a layer in hand that holds changes.
 pub fn reply_with_layer<S: Store>(layer: &mut HeldStore<S>, line: &[u8]) -> Reply
-    ensures links { RepliedHeld (S.Links.things layer.old.base) (S.Links.limit layer.old.base) (set_of S.Links layer.old) (held_in (layer_of S.Links layer.old)) (command_of line.now) result (set_of S.Links layer.new) (held_in (layer_of S.Links layer.new)) }
-    ensures things { S.Links.things layer.new.base ≡ S.Links.things layer.old.base }
-    ensures limit { S.Links.limit layer.new.base ≡ S.Links.limit layer.old.base }
+    ensures { RepliedHeld (set_of S.Links layer.old) (held_in (layer_of S.Links layer.old)) (command_of line.now) result (set_of S.Links layer.new) (held_in (layer_of S.Links layer.new)) }
 {
     match read_command(line) {
         Ok(Command::Make(wanted)) => reply_to_wanted(wanted),

@@ -1,174 +1,89 @@
 use crate::commissioning::Desk;
-use crate::replying::{hub_call, reply_alone, reply_with, reply_with_layer};
+use crate::replying::hub_call;
+use crate::service::{NoStore, Plain, Service};
 use crate::serving::Plan;
 use crate::session::Session;
 use bit_store::BitStore;
-use commands::{HubCall, Kind};
+use commands::Kind;
 use held_store::HeldStore;
-use links::{Link, Sizes, Store};
+use links::{Link, Store};
 use list_store::ListStore;
 use std::alloc::Global;
 use std::io;
 use std::io::{BufRead, BufReader, BufWriter, Write};
 
-// Serves lines until a store is made; none at the end of the input.
-fn play_alone<R: BufRead, W: Write>(
-    session: &mut Session<R, W>,
-    desk: &mut Desk,
-) -> io::Result<Option<Plan>> {
-    for _ in 0..u64::MAX {
-        if !session.next_line()? {
-            break;
-        }
-        if let Some(call) = hub_call(session.line()) {
-            desk.serve(session, call)?;
-            continue;
-        }
-        let reply = reply_alone(session.line());
-        session.say(reply.answer)?;
-        if reply.plan.is_some() {
-            return Ok(reply.plan);
-        }
-    }
-    Ok(None)
-}
-
-fn serve_hub<S: Store, R: BufRead, W: Write>(
-    session: &mut Session<R, W>,
-    desk: &mut Desk,
-    store: &S,
-    call: HubCall,
-) -> io::Result<()> {
-    match call {
-        HubCall::Survey(wanted) => desk.survey(session, store, wanted),
-        _ => desk.serve(session, call),
-    }
-}
-
-// Serves lines with a store until another is made; none at the end of the input.
-fn play<S: Store + Drop, R: BufRead, W: Write>(
-    session: &mut Session<R, W>,
-    desk: &mut Desk,
-    mut store: S,
-) -> io::Result<Option<Plan>> {
-    for _ in 0..u64::MAX {
-        if !session.next_line()? {
-            break;
-        }
-        if let Some(call) = hub_call(session.line()) {
-            serve_hub(session, desk, &store, call)?;
-            continue;
-        }
-        let reply = reply_with(&mut store, session.line());
-        session.say(reply.answer)?;
-        if reply.plan.is_some() {
-            return Ok(reply.plan);
-        }
-    }
-    Ok(None)
-}
-
-// The same with a layer over the store that holds changes back.
-fn play_layer<S: Store + Drop, R: BufRead, W: Write>(
-    session: &mut Session<R, W>,
-    desk: &mut Desk,
-    store: S,
-) -> io::Result<Option<Plan>> {
-    let mut layer = HeldStore::new(store);
-    for _ in 0..u64::MAX {
-        if !session.next_line()? {
-            break;
-        }
-        if let Some(call) = hub_call(session.line()) {
-            serve_hub(session, desk, &layer, call)?;
-            continue;
-        }
-        let reply = reply_with_layer(&mut layer, session.line());
-        session.say(reply.answer)?;
-        if reply.plan.is_some() {
-            return Ok(reply.plan);
-        }
-    }
-    Ok(None)
-}
-
-// Serves lines with the store, or with a layer over it.
-fn play_either<S: Store + Drop, R: BufRead, W: Write>(
-    session: &mut Session<R, W>,
-    desk: &mut Desk,
-    held: bool,
-    store: S,
-) -> io::Result<Option<Plan>> {
-    if held {
-        play_layer(session, desk, store)
-    } else {
-        play(session, desk, store)
-    }
-}
-
-fn play_list<R: BufRead, W: Write>(
+// The lines and answers of a run, and the hub that it commissions.
+#[derive(Drop)]
+struct Console<R, W> {
     heap: Global,
-    session: &mut Session<R, W>,
-    desk: &mut Desk,
-    held: bool,
-    sizes: Sizes,
-) -> io::Result<Option<Plan>> {
-    let unused = Link {
-        source: 0,
-        label: 0,
-        target: 0,
-    };
-    let mut memory = vec![in heap; unused; sizes.limit()]?;
-    play_either(
-        session,
-        desk,
-        held,
-        ListStore::new(sizes, memory.as_mut_slice()),
-    )
+    session: Session<R, W>,
+    desk: Desk,
 }
 
-fn play_bits<R: BufRead, W: Write>(
-    heap: Global,
-    session: &mut Session<R, W>,
-    desk: &mut Desk,
-    held: bool,
-    sizes: Sizes,
-) -> io::Result<Option<Plan>> {
-    let mut words = vec![in heap; 0u32; BitStore::words_needed(sizes)]?;
-    play_either(
-        session,
-        desk,
-        held,
-        BitStore::new(sizes, words.as_mut_slice()),
-    )
-}
+impl<R: BufRead, W: Write> Console<R, W> {
+    // Serves lines until a store is made; none at the end of the input.
+    fn play<S: Service>(&mut self, service: &mut S) -> io::Result<Option<Plan>> {
+        for _ in 0..u64::MAX {
+            let Some(line) = self.session.next_line()? else {
+                break;
+            };
+            let line = line.as_slice();
+            if let Some(call) = hub_call(line) {
+                let response = self.desk.serve(service, call, line)?;
+                self.session.say(&response)?;
+                continue;
+            }
+            let reply = service.reply(line);
+            self.session.say(&reply.answer)?;
+            if reply.plan.is_some() {
+                return Ok(reply.plan);
+            }
+        }
+        Ok(None)
+    }
 
-// Makes the store, over memory of its own, and serves lines with it.
-fn play_with<R: BufRead, W: Write>(
-    heap: Global,
-    session: &mut Session<R, W>,
-    desk: &mut Desk,
-    plan: Plan,
-) -> io::Result<Option<Plan>> {
-    match plan.kind {
-        Kind::List => play_list(heap, session, desk, plan.held, plan.sizes),
-        Kind::Bits => play_bits(heap, session, desk, plan.held, plan.sizes),
+    // Serves lines with the store, or with a layer over it that holds changes back.
+    fn play_over<S: Store + Drop>(&mut self, held: bool, store: S) -> io::Result<Option<Plan>> {
+        if held {
+            self.play(&mut HeldStore::new(store))
+        } else {
+            self.play(&mut Plain(store))
+        }
+    }
+
+    // Makes the store, over memory of its own, and serves lines with it.
+    fn play_with(&mut self, plan: Plan) -> io::Result<Option<Plan>> {
+        let sizes = plan.sizes;
+        match plan.kind {
+            Kind::List => {
+                let mut records = vec![in self.heap; Link::default(); sizes.limit()]?;
+                self.play_over(plan.held, ListStore::new(sizes, records.as_mut_slice()))
+            }
+            Kind::Bits => {
+                let mut words = vec![in self.heap; 0u32; BitStore::words_needed(sizes)]?;
+                self.play_over(plan.held, BitStore::new(sizes, words.as_mut_slice()))
+            }
+        }
     }
 }
 
 // Reads commands from standard input until it ends, and writes their answers to standard output.
 pub fn run(rt: &HostRuntime) -> io::Result<()> {
-    let input = BufReader::new(rt.alloc(), rt.stdin())?;
-    let output = BufWriter::new(rt.alloc(), rt.stdout())?;
-    let mut session = Session::new(input, output, Vec::new(rt.alloc()));
-    let mut desk = Desk::new(rt.alloc());
-    let mut next = play_alone(&mut session, &mut desk)?;
+    let heap = rt.alloc();
+    let input = BufReader::new(heap, rt.stdin())?;
+    let output = BufWriter::new(heap, rt.stdout())?;
+    let mut console = Console {
+        heap,
+        session: Session::new(input, output, heap),
+        desk: Desk::new(heap),
+    };
+    let mut next = console.play(&mut NoStore)?;
     // Nothing says that an input ends, so the stores are counted.
     for _ in 0..u64::MAX {
         let Some(plan) = next else {
             break;
         };
-        next = play_with(rt.alloc(), &mut session, &mut desk, plan)?;
+        next = console.play_with(plan)?;
     }
     Ok(())
 }

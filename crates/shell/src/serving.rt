@@ -1,11 +1,10 @@
-ghost use Rattle.std.specs.Prelude.{◌≡◌};
 ghost use Rattle.links.specs.Numbers.{Asked};
-ghost use Rattle.shell.specs.Answers.{CanMake, Planned, Served, number_answer, switch_answer};
+ghost use Rattle.shell.specs.Answers.{CanMake, Planned, Served};
 
-use crate::answer::{Answer, Refusal};
+use crate::answer::Answer;
 use bit_store::BitStore;
 use commands::{Call, Kind, Wanted};
-use links::{MakeRefusal, Sizes, Store, SwitchRefusal};
+use links::{MakeRefusal, Sizes, Store};
 use list_store::ListStore;
 
 // A store that can be made, with a layer over it that holds changes or without.
@@ -41,37 +40,17 @@ pub fn plan_for(wanted: Wanted) -> Result<Plan, MakeRefusal>
     })
 }
 
-fn switched(res: Result<(), SwitchRefusal>) -> Answer
-    ensures { result ≡ switch_answer res }
-{
-    match res {
-        Ok(()) => Answer::Taken,
-        Err(refusal) => Answer::Refused(Refusal::Switch(refusal)),
-    }
-}
-
-fn numbered(number: Option<u32>) -> Answer
-    ensures { result ≡ number_answer number }
-{
-    match number {
-        Some(number) => Answer::Number(number as usize),
-        None => Answer::Nothing,
-    }
-}
-
 // Serves a call with the store in hand.
 pub fn serve<S: Store>(store: &mut S, call: Call) -> Answer
-    ensures links { Served (S.Links.things store.old) (S.Links.limit store.old) (S.Links.links store.old) call result (S.Links.links store.new) }
-    ensures things { S.Links.things store.new ≡ S.Links.things store.old }
-    ensures limit { S.Links.limit store.new ≡ S.Links.limit store.old }
+    ensures { Served (S.Links.set store.old) call result (S.Links.set store.new) }
 {
     match call {
-        Call::On(link) => switched(store.switch_on(link)),
-        Call::Off(link) => switched(store.switch_off(link)),
+        Call::On(link) => store.switch_on(link).into(),
+        Call::Off(link) => store.switch_off(link).into(),
         Call::Is(link) => Answer::Test(store.is_on(link)),
-        Call::Target(q) => numbered(store.next_target(q.node, q.label, q.from)),
-        Call::Source(q) => numbered(store.next_source(q.node, q.label, q.from)),
+        Call::Target(q) => store.next_target(q.node, q.label, q.from).into(),
+        Call::Source(q) => store.next_source(q.node, q.label, q.from).into(),
         Call::Count => Answer::Number(store.link_count()),
-        Call::Spare => numbered(store.spare_thing()),
+        Call::Spare => store.spare_thing().into(),
     }
 }

@@ -1,77 +1,57 @@
-ghost use Rattle.std.specs.Prelude.{◌≡◌};
-
-use crate::answer::Answer;
 use commands::is_passed;
-use std::io;
+use std::alloc::Global;
 use std::io::{BufRead, Write};
+use std::{fmt, io};
 
-// The lines that come in, the answers that go out, and the line that was read last.
+// The lines that come in, and the answers that go out.
 #[derive(Drop)]
 pub struct Session<R, W> {
     input: R,
     output: W,
-    line: Vec<u8>,
+    heap: Global,
 }
 
 impl<R: BufRead, W: Write> Session<R, W> {
-    pub fn new(input: R, output: W, line: Vec<u8>) -> Session<R, W> {
+    pub fn new(input: R, output: W, heap: Global) -> Session<R, W> {
         Session {
             input,
             output,
-            line,
+            heap,
         }
     }
 
-    // Reads up to the next newline, and leaves the newline out; false at the end of the input.
-    fn read_line(&mut self) -> io::Result<bool> {
-        self.line.clear();
-        if self.input.read_until(b'\n', &mut self.line)? == 0 {
-            return Ok(false);
+    // Reads up to the next newline, and leaves the newline out; none at the end of the input.
+    fn read_line(&mut self) -> io::Result<Option<Vec<u8>>> {
+        let mut line = Vec::new(self.heap);
+        if self.input.read_until(b'\n', &mut line)? == 0 {
+            return Ok(None);
         }
-        if self.line.as_slice().last() == Some(&b'\n') {
-            let _ = self.line.pop();
+        if line.as_slice().last() == Some(&b'\n') {
+            let _ = line.pop();
         }
-        Ok(true)
+        Ok(Some(line))
     }
 
-    // Reads the next line that is not passed over, and echoes it; false at the end of the input.
-    pub fn next_line(&mut self) -> io::Result<bool> {
+    // Reads the next line that is not passed over, and echoes it; none at the end of the input.
+    pub fn next_line(&mut self) -> io::Result<Option<Vec<u8>>> {
         // Nothing says that an input ends, so the lines are counted.
         for _ in 0..u64::MAX {
-            if !self.read_line()? {
-                return Ok(false);
-            }
-            if !is_passed(self.line()) {
+            let Some(line) = self.read_line()? else {
+                break;
+            };
+            if !is_passed(line.as_slice()) {
                 self.output.write_all(b"> ")?;
-                self.output.write_all(self.line.as_slice())?;
+                self.output.write_all(line.as_slice())?;
                 self.output.write_all(b"\n")?;
-                return Ok(true);
+                return Ok(Some(line));
             }
         }
-        Ok(false)
-    }
-
-    // The line that was read last.
-    pub fn line(&self) -> &[u8]
-        ensures { result.now ≡ self.now.line.items }
-    {
-        self.line.as_slice()
+        Ok(None)
     }
 
     // Writes an answer on a line of its own, and sends out what was written.
-    pub fn say(&mut self, answer: Answer) -> io::Result<()> {
+    pub fn say<T: fmt::Display>(&mut self, answer: &T) -> io::Result<()> {
         writeln!(self.output, "{answer}")?;
-        self.output.flush()
-    }
-
-    // Writes words that are given behind `taken`.
-    pub fn say_words(&mut self, words: &[u32]) -> io::Result<()> {
-        self.output.write_all(b"taken")?;
-        for word in words {
-            let word = *word;
-            write!(self.output, " {word:08X}")?;
-        }
-        self.output.write_all(b"\n")?;
         self.output.flush()
     }
 }

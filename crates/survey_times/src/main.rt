@@ -71,12 +71,7 @@ fn run(rt: &HostRuntime) -> io::Result<()> {
     let Ok(sizes) = Sizes::ask(328, 4096) else {
         return Ok(());
     };
-    let unused = Link {
-        source: 0,
-        label: 0,
-        target: 0,
-    };
-    let mut records = vec![in rt.alloc(); unused; sizes.limit()]?;
+    let mut records = vec![in rt.alloc(); Link::default(); sizes.limit()]?;
     let mut list = ListStore::new(sizes, records.as_mut_slice());
     let _ = record_block(&mut list);
     time_store(rt, "list", &list)?;

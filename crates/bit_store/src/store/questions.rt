@@ -42,8 +42,11 @@ impl<'a> Links for BitStore<'a> {
             label,
             target,
         })?;
+        // The bits of one label and target are a stride apart, from source to source.
         let end = 64 + self.sizes.things();
         let stride = 16 * end as usize;
-        (start..end).find(|source| self.is_bit_on(first + (*source - start) as usize * stride))
+        (0..end - start)
+            .find(|step| self.is_bit_on(first + *step as usize * stride))
+            .map(|step| start + step)
     }
 }

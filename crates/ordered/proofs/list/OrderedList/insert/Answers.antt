@@ -1,4 +1,4 @@
-use Rattle.std.proofs.Common.{◌+◌, ◌≤◌, length, ap, ◌∙◌, arith}
+use Rattle.std.proofs.Common.{ap, ◌∙◌, arith}
 use Rattle.std.proofs.lemmas.List.{length-take-le}
 use Rattle.ordered.specs.Items.{items}
 use Rattle.ordered.specs.Order.{ascending}
@@ -12,9 +12,8 @@ invariant_of-self g c =
     let b = g.R.Keyed.before in
     let k = c.in-Err.ensures in
     let n = length-take-le s.len s.records.now s.fits in
-    let room : s.len + 1 ≤ length c.insert_at.new.records = omega (arith, n, s.fits, c.insert_at.auto.records) in
     record {
-      fits = room;
+      fits = omega (arith, n, s.fits, c.insert_at.auto.records);
       rises = ap (ascending b) (inserted_is b c.args.x s.records.now c.insert_at.new.records c.in-Err.at s.len (omega (arith, n, k.bound)) k.sought.1 c.insert_at.ensures) ∙ ascending_placed b g.met.R.Keyed.order c.args.x (items s) s.rises k.sought.0;
     }
 

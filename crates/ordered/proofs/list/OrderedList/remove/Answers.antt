@@ -1,4 +1,4 @@
-use Rattle.std.proofs.Common.{◌-◌, ◌≤◌, length, sym, ap, ◌∙◌, arith}
+use Rattle.std.proofs.Common.{length, sym, ap, ◌∙◌, arith}
 use Rattle.std.proofs.lemmas.List.{length-take-le}
 use Rattle.ordered.specs.Items.{items}
 use Rattle.ordered.specs.Order.{ascending}
@@ -28,9 +28,8 @@ invariant_of-self g c =
     let x = c.args.x.now in
     let found = sought_ok b x (items s) (length (items s)) c.binary_search.result c.ok.result _ c.ok.ensures.value c.in_ok-at.was c.binary_search.ensures.bound c.binary_search.ensures.sought in
     let n = length-take-le s.len s.records.now s.fits in
-    let room : s.len - 1 ≤ length c.remove_at.new.records = omega (arith, n, s.fits, c.remove_at.auto.records) in
     record {
-      fits = room;
+      fits = omega (arith, n, s.fits, c.remove_at.auto.records);
       rises = ap (ascending b) (removed_is b g.met.R.Keyed.order x s.records.now c.remove_at.new.records c.in_ok-at.at s.len (omega (arith, n, found.0)) found.2 s.rises found.1 c.remove_at.ensures) ∙ ascending_without b x (items s) s.rises;
     }
 

@@ -1,4 +1,4 @@
-use Rattle.std.proofs.Common.{◌≡◌, ◌+◌, ◌-◌, ◌*◌, true, false, rules, tests, arith}
+use Rattle.std.proofs.Common.{◌≡◌, ◌+◌, ◌*◌, true, false, rules, tests, arith}
 use Rattle.std.proofs.lemmas.Iterator.{first_from_Range, serves_from_Range}
 use Rattle.bit_store.specs.Places.{bit_on}
 use Rattle.bit_store.proofs.Runs.{places_few}
@@ -16,7 +16,7 @@ find-requires-clause-callable c =
     let placed = c.in_ok-first.ensures in
     let few = places_few s.sizes.things s.sizes.ranges.1 in
     serves_from_Range (λ n q k. search (rules, tests)) (λ n low high y e.
-    let h = column_below s.words.now s.sizes.things c.args.label c.args.target c.args.from c.max-start.result c.max-start.ensures placed.0 c.in_ok-first.first placed.1 c.things-end.result y.now c.things-end.ensures.is (omega (arith, e, low)) (omega (arith, e, high)) in
+    let h = column_below s.words.now s.sizes.things c.args.label c.args.target c.args.from c.max-start.result c.max-start.ensures placed.0 c.in_ok-first.first placed.1 c.things-end.result c.things-end.ensures.is y.now (omega (arith, e, high)) in
     search (rules, h, few))
 
 pub returns : goal.returns
@@ -25,7 +25,6 @@ returns c =
     let ws = s.words.now in
     let placed = c.in_ok-first.ensures in
     let first = c.in_ok-first.first in
-    let start = c.max-start.result in
     let n = c.things-end.result in
-    let h = first_from_Range _ _ _ c.find.result (λ k. bit_on ws (first + (k - start) * (16 * (64 + n))) ≡ true) (λ k. bit_on ws (first + (k - start) * (16 * (64 + n))) ≡ false) c.find.ensures.ran (λ k q r. search (rules, tests)) (λ k q r. search (rules, tests)) in
-    next_column ws s.sizes.things c.args.label c.args.target c.args.from start c.max-start.ensures placed.0 first placed.1 n c.find.result c.things-end.ensures.is h
+    let h = first_from_Range _ _ _ c.find.result (λ k. bit_on ws (first + k * (16 * (64 + n))) ≡ true) (λ k. bit_on ws (first + k * (16 * (64 + n))) ≡ false) c.find.ensures.ran (λ k q r. search (rules, tests)) (λ k q r. search (rules, tests)) in
+    next_column ws s.sizes.things c.args.label c.args.target c.args.from c.max-start.result c.max-start.ensures placed.0 first placed.1 n c.things-end.ensures.is c.find.result c.map.result _ h c.map.ensures.cases (λ k x q. search rules)

@@ -1,15 +1,20 @@
 -- the bans of a rule, one after another
-use Rattle.std.proofs.Common.{◌≡◌, ℕ, ◌+◌, ◌≤◌, List, [], ◌∷◌, ◌++◌, length, take, drop, Some, None, Ok, Err, Result, sym, refl, ap, ◌∙◌, arith, length-append}
+use Rattle.std.proofs.Common.{◌≡◌, ℕ, ◌+◌, ◌≤◌, List, [], ◌∷◌, ◌++◌, length, take, drop, Some, None, Ok, Err, Option, Result, sym, refl, ap, ◌∙◌, arith, length-append}
 use Rattle.std.proofs.lemmas.List.{drop_all}
 use Rattle.rules.specs.declared.faults.PlacedFault.{PlacedFault}
 use Rattle.rules.specs.declared.bans.BanRun.{BanRun}
-use Rattle.rules.specs.Rules.{Ban, bans_words, ban_words}
-use Rattle.rules.specs.Parts.{BanHere}
+use Rattle.rules.specs.declared.parts.RuleRun.{RuleRun}
+use Rattle.rules.specs.Rules.{Ban, Rule, bans_words, ban_words}
+use Rattle.rules.specs.Parts.{BanHere, RuleAt}
 use Rattle.rules.specs.Handed.{BanIs}
 use Rattle.rules.specs.Marks.{passed, or_else, first_mark, ban_marks, bans_marks}
 use Rattle.rules.proofs.RuleMarks.{first_append, ban_marks_length}
 use Rattle.rules.proofs.Marking.{passed_first, passed_next}
 use Rattle.rules.proofs.Walking.{split, joined_push}
+
+-- the ban that a rule hands out by its number
+abbrev pub BanHanded : RuleRun → ℕ → Option BanRun → Type 0
+BanHanded q i o = (r : Rule) → RuleAt q r → BanIs r.variables (q.place + 1 + length r.needs + length (bans_words (take i r.bans))) (drop i r.bans) o
 
 abbrev pub BansFrom : ℕ → List Ban → ℕ → Type 0
 BansFrom p bs i = passed (first_mark (p + length (bans_words (take i bs))) (bans_marks (drop i bs))) ≡ passed (first_mark p (bans_marks bs))

@@ -1,5 +1,6 @@
 -- a fold that takes the same step a number of times
-use Rattle.std.proofs.Common.{◌≡◌, ℕ, ◌+◌, List, length, subst, sym, arith}
+use Rattle.std.proofs.Common.{◌≡◌, ℕ, ◌+◌, ◌≤◌, List, length, Some, None, Option, MatchOption, inl, inr, subst, sym, arith}
+use mathlib.Core.Logic.{◌⊎◌}
 use Rattle.std.proofs.iter.Yields.{nat_range_steps}
 use Rattle.std.proofs.lemmas.Fn.{fold_over}
 use Rattle.std.proofs.lemmas.List.{length_push}
@@ -18,3 +19,19 @@ after_steps g Here f step s i a r e h ran =
     (λ ys y x b f' j c. let p = step (length ys) y x b f' j c in (subst (λ n. Here n b) (sym (length_push ys x)) p.0, p.1))
     s (range_with_len 0 i) a r (YieldsList-from_range 0 i i e (omega arith)).runs h ran in
     subst (λ n. Here n r) (length-range_with_len 0 i) k
+
+-- one turn of `map_while` over a range: the next number, and what the closure answered at it
+module _ {F B : Type 0} (g : Mut F (ℕ × Unit {0}) (Option B)) (s t : Range ℕ) (f f' : F) where
+  some_cases : (b : B) (o : Option ℕ) → nat_range_steps s o t → MatchOption o ((Some b ≡ None) × (f' ≡ f)) (λ x. Called g f (x, tt) (Some b) f') → (t.end ≡ s.end) × (t.start ≡ s.start + 1) × Called g f (s.start, tt) (Some b) f'
+  some_cases b None p q = let e = q.0 in let z : ◌≡◌ {A = ℕ} 0 1 = cc in absurd (omega arith)
+  some_cases b (Some x) p q = (p.0, p.1.2, subst (λ z. Called g f (z, tt) (Some b) f') p.1.1 q)
+
+  pub some_turn : (b : B) → (o : Option ℕ) × nat_range_steps s o t × MatchOption o ((Some b ≡ None) × (f' ≡ f)) (λ x. Called g f (x, tt) (Some b) f') → (t.end ≡ s.end) × (t.start ≡ s.start + 1) × Called g f (s.start, tt) (Some b) f'
+  some_turn b e = some_cases b e.0 e.1 e.2
+
+  none_cases : (o : Option ℕ) → nat_range_steps s o t → MatchOption o ((◌≡◌ {A = Option B} None None) × (f' ≡ f)) (λ x. Called g f (x, tt) None f') → (s.end ≤ s.start) ⊎ Called g f (s.start, tt) None f'
+  none_cases None p q = let n = p.1.0 in inl (omega arith)
+  none_cases (Some x) p q = inr (subst (λ z. Called g f (z, tt) None f') p.1.1 q)
+
+  pub none_turn : (o : Option ℕ) × nat_range_steps s o t × MatchOption o ((◌≡◌ {A = Option B} None None) × (f' ≡ f)) (λ x. Called g f (x, tt) None f') → (s.end ≤ s.start) ⊎ Called g f (s.start, tt) None f'
+  none_turn e = none_cases e.0 e.1 e.2

@@ -9,13 +9,14 @@ use Rattle.words.proofs.Coding.{kind_of_word}
 use Rattle.rules.specs.declared.faults.PlacedFault.{PlacedFault}
 use Rattle.rules.specs.declared.faults.SetFault.{SetFault}
 use Rattle.rules.specs.declared.parts.RuleRun.{RuleRun}
+use Rattle.rules.specs.declared.sets.RuleSet.{RuleSet}
 use Rattle.rules.specs.Rules.{Making, Rule, rule_words, encode, link_words, bans_words, need_words, thing_words, makes_words}
 use Rattle.rules.specs.Formed.{FormedMaking, FormedRule}
 use Rattle.rules.specs.Runs.{span, end_of, rule_end}
 use Rattle.rules.specs.Parts.{RuleHere}
 use Rattle.rules.specs.Handed.{RuleIs}
 use Rattle.rules.specs.Marks.{passed, or_else, first_mark, rule_marks, fault_in, in_rule, second_fault}
-use Rattle.rules.specs.Sets.{RuleStart}
+use Rattle.rules.specs.Sets.{SetHere, RuleStart}
 use Rattle.rules.proofs.Complete.{six}
 use Rattle.rules.proofs.Spans.{Kinds, in_kind}
 use Rattle.rules.proofs.WordKinds.{kinds_links, kinds_things, kinds_wider, kinds_join, end_at, run_at}
@@ -103,6 +104,10 @@ module _ (ws : List ℕ) (rs : List Rule) (f : AllByRecursion FormedRule rs) (k 
 
 pub no_rule_left : (rs : List Rule) (i place : ℕ) → length rs ≤ i → RuleIs place (drop i rs) None
 no_rule_left rs i place h = subst (λ z. RuleIs place z None) (sym (drop_all i rs h)) tt
+
+-- the rule that a set hands out by its number
+abbrev pub RuleHanded : RuleSet → ℕ → Option RuleRun → Type 0
+RuleHanded s i o = (rs : List Rule) → SetHere s rs → RuleIs (length (encode (take i rs))) (drop i rs) o
 
 -- the second pass over the rules
 abbrev pub FaultsFrom : List Rule → ℕ → Type 0

@@ -38,10 +38,7 @@ fn check_ban(ban: BanRun) -> Result<(), PlacedFault>
 fn check_bans(rule: RuleRun) -> Result<(), PlacedFault>
     ensures { (r : Rule) → RuleAt rule.entry r → result ≡ passed (first_mark (rule.entry.place + 1 + length r.needs) (bans_marks r.bans)) }
 {
-    for i in 0..4 {
-        let Some(ban) = rule.ban(i) else {
-            return Ok(());
-        };
+    for ban in (0..4).map_while(|i| rule.ban(i)) {
         check_ban(ban)?;
     }
     Ok(())

@@ -16,10 +16,8 @@ use words::Cause;
 fn check(set: RuleSet) -> Result<(), SetFault>
     ensures { (rs : List Rule) → SetHere set.entry rs → result ≡ passed (second_fault 0 0 rs) }
 {
-    for i in 0..set.rules {
-        let Some(rule) = set.rule(i) else {
-            return Ok(());
-        };
+    let rules = (0..set.rules).map_while(|i| set.rule(i));
+    for (i, rule) in rules.enumerate() {
         if let Err(found) = check_rule(rule) {
             return Err(found.in_rule(i));
         }

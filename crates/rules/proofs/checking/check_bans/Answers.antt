@@ -1,21 +1,46 @@
-use Rattle.std.proofs.Common.{◌+◌, length, Ok, Err, refl, arith}
+use Rattle.std.proofs.Common.{◌+◌, length, Some, None, Ok, Err, sym, refl, ap, ◌∙◌, subst, ⊎_elim, rules, arith}
 use Rattle.std.proofs.lemmas.Result.{err_from_is_err_and}
-use Rattle.rules.proofs.BanMarks.{bans_first, bans_end, bans_all, bans_hit, bans_miss}
+use Rattle.rules.proofs.Counted.{some_turn, none_turn}
+use Rattle.rules.proofs.BanMarks.{BanHanded, BansFrom, bans_first, bans_end, bans_all, bans_hit, bans_miss}
 use Rattle.rules.proofs.checking.check_bans.Goals as goal
 
-pub loop-i-init : goal.loop-i-init
-loop-i-init c = λ r h. bans_first (c.args.rule.place + 1 + length r.needs) r.bans
+pub loop-ban-init : goal.loop-ban-init
+loop-ban-init c =
+    let e = c.into_iter-ban-iterator.ensures.into_iter_gives in
+    let s = c.map_while-ban-items.ensures.source in
+    let f = c.map_while-ban-items.ensures.closure in
+    (ap (λ z. z.iter.end) e ∙ ap (λ z. z.end) s, ap (λ z. z.f.0.now) e ∙ ap (λ z. z.0.now) f, λ r h. subst (BansFrom (c.args.rule.place + 1 + length r.needs) r.bans) (sym (ap (λ z. z.iter.start) e ∙ ap (λ z. z.start) s)) (bans_first (c.args.rule.place + 1 + length r.needs) r.bans))
 
-pub returns-in_default : goal.returns-in_default
-returns-in_default c = λ r h. bans_end r.variables (c.args.rule.place + 1 + length r.needs) r.bans c.loop-i.i (c.loop-i.invariant r h) (c.in_default.ensures r h)
+pub loop-ban-preserved : goal.loop-ban-preserved
+loop-ban-preserved c =
+    let k = some_turn _ _ _ _ _ c.in-Some.ban c.in-Some.ensures.steps in
+    let i = c.loop-ban.ban-iterator.iter.start in
+    let called = k.2 in
+    let b : BanHanded c.args.rule i (Some c.in-Some.ban) = subst (λ q. BanHanded q i (Some c.in-Some.ban)) c.loop-ban.invariant.1 (λ r h. search rules) in (
+      k.0 ∙ c.loop-ban.invariant.0,
+      search rules,
+      λ r h.
+          let p = c.args.rule.place + 1 + length r.needs in
+          subst (BansFrom p r.bans) (sym k.1) (bans_miss r.variables p r.bans i (c.loop-ban.invariant.2 r h) c.in-Some.ban (Ok tt) c.in_ok-check_ban.ensures (b r h) refl),
+    )
 
 pub returns-in_err-check_ban : goal.returns-in_err-check_ban
-returns-in_err-check_ban c = λ r h.
-    let p = err_from_is_err_and c.from_residual.result c.from_residual.ensures.1 in
-    rw (p.1, p.2) (bans_hit r.variables (c.args.rule.place + 1 + length r.needs) r.bans c.loop-i.i (c.loop-i.invariant r h) c.in-Some.ban (Err c.in_err-check_ban.field-0.0) c.in_err-check_ban.ensures c.in_err-check_ban.field-0.0 (c.in-Some.ensures r h) refl)
-
-pub loop-i-preserved : goal.loop-i-preserved
-loop-i-preserved c = λ r h. bans_miss r.variables (c.args.rule.place + 1 + length r.needs) r.bans c.loop-i.i (c.loop-i.invariant r h) c.in-Some.ban (Ok tt) c.in_ok-check_ban.ensures (c.in-Some.ensures r h) refl
+returns-in_err-check_ban c =
+    let k = some_turn _ _ _ _ _ c.in-Some.ban c.in-Some.ensures.steps in
+    let i = c.loop-ban.ban-iterator.iter.start in
+    let called = k.2 in
+    let b : BanHanded c.args.rule i (Some c.in-Some.ban) = subst (λ q. BanHanded q i (Some c.in-Some.ban)) c.loop-ban.invariant.1 (λ r h. search rules) in
+    let e = err_from_is_err_and c.from_residual.result c.from_residual.ensures.1 in
+    λ r h.
+    rw (e.1, e.2) (bans_hit r.variables (c.args.rule.place + 1 + length r.needs) r.bans i (c.loop-ban.invariant.2 r h) c.in-Some.ban (Err c.in_err-check_ban.field-0.0) c.in_err-check_ban.ensures c.in_err-check_ban.field-0.0 (b r h) refl)
 
 pub returns : goal.returns
-returns c = λ r h. bans_all r.variables (c.args.rule.place + 1 + length r.needs) r.bans c.loop-i.i (c.loop-i.invariant r h) (let z = h.formed.few in omega arith)
+returns c =
+    let i = c.loop-ban.ban-iterator.iter.start in
+    λ r h.
+    let p = c.args.rule.place + 1 + length r.needs in
+    ⊎_elim (λ l. bans_all r.variables p r.bans i (c.loop-ban.invariant.2 r h) (let z = h.formed.few in let y = c.loop-ban.invariant.0 in omega arith))
+    (λ called.
+    let b : BanHanded c.args.rule i None = subst (λ q. BanHanded q i None) c.loop-ban.invariant.1 (λ r h. search rules) in
+    bans_end r.variables p r.bans i (c.loop-ban.invariant.2 r h) (b r h))
+    (none_turn _ _ _ _ _ c.in-None.ensures.steps)

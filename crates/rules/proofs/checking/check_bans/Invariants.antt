@@ -1,8 +1,8 @@
-use Rattle.std.proofs.Common.{◌+◌, length}
+use Rattle.std.proofs.Common.{◌≡◌, ◌+◌, length}
 use Rattle.rules.specs.Rules.{Rule}
-use Rattle.rules.specs.Parts.{RuleHere}
+use Rattle.rules.specs.Parts.{RuleAt}
 use Rattle.rules.proofs.BanMarks.{BansFrom}
 use Rattle.rules.proofs.checking.check_bans.Given as goal
 
-abbrev pub invariant-loop-i : goal.invariant-loop-i
-invariant-loop-i l = (r : Rule) → RuleHere l.rule.place l.rule.words.now r → BansFrom (l.rule.place + 1 + length r.needs) r.bans l.i
+abbrev pub invariant-loop-ban : goal.invariant-loop-ban
+invariant-loop-ban l = (l.ban-iterator.iter.end ≡ 4) × (l.ban-iterator.f.0.now ≡ l.fn.rule) × ((r : Rule) → RuleAt l.fn.rule r → BansFrom (l.fn.rule.place + 1 + length r.needs) r.bans l.ban-iterator.iter.start)

@@ -44,60 +44,57 @@ fn settling<S: Store>(rt: &impl Abort, layer: &mut HeldStore<S>) {
     assert_eq!(rt; layer.spare_thing(), Some(65));
 }
 
-fn alone<S: Store + Drop>(rt: &impl Abort, base: S) -> Result<(), Fail> {
-    let mut layer = HeldStore::new(base);
-    seventeen(rt, &mut layer);
-    settling(rt, &mut layer);
-    Ok(())
+// How many layers stand over a store.
+trait Layers {
+    fn over<A: Abort, S: Store + Drop>(rt: &A, base: S) -> Result<(), Fail>;
 }
 
-fn twofold<S: Store + Drop>(rt: &impl Abort, base: S) -> Result<(), Fail> {
-    alone(rt, HeldStore::new(base))
+struct One;
+
+impl Layers for One {
+    fn over<A: Abort, S: Store + Drop>(rt: &A, base: S) -> Result<(), Fail> {
+        let mut layer = HeldStore::new(base);
+        seventeen(rt, &mut layer);
+        settling(rt, &mut layer);
+        Ok(())
+    }
 }
 
-fn over_list(rt: &impl Abort, heap: Global, layers: u32) -> Result<(), Fail> {
+struct Two;
+
+impl Layers for Two {
+    fn over<A: Abort, S: Store + Drop>(rt: &A, base: S) -> Result<(), Fail> {
+        One::over(rt, HeldStore::new(base))
+    }
+}
+
+// Takes the steps over a list store of 17 links at most.
+// Stays: a store borrows its memory, so one maker of both stores would want an associated type with a lifetime.
+fn over_list<L: Layers>(rt: &impl Abort, heap: Global) -> Result<(), Fail> {
     let Ok(sizes) = ListStore::ask(2, 17, 17) else {
         return Err(Fail::new("refused"));
     };
     let mut memory = vec![in heap; link(0); 17]?;
-    let slots = memory.as_mut_slice();
-    if slots.len() < sizes.limit() {
-        return Err(Fail::new("memory"));
-    }
-    let store = ListStore::new(sizes, slots);
-    if layers == 1 {
-        alone(rt, store)
-    } else {
-        twofold(rt, store)
-    }
+    L::over(rt, ListStore::new(sizes, memory.as_mut_slice()))
 }
 
-fn over_bits(rt: &impl Abort, heap: Global, layers: u32) -> Result<(), Fail> {
+// Takes the steps over a bit store of 17 links at most.
+fn over_bits<L: Layers>(rt: &impl Abort, heap: Global) -> Result<(), Fail> {
     let Ok(sizes) = BitStore::ask(2, 17, 1000) else {
         return Err(Fail::new("refused"));
     };
-    let needed = BitStore::words_needed(sizes);
-    let mut memory = vec![in heap; u32::MAX; needed]?;
-    let words = memory.as_mut_slice();
-    if words.len() < needed {
-        return Err(Fail::new("memory"));
-    }
-    let store = BitStore::new(sizes, words);
-    if layers == 1 {
-        alone(rt, store)
-    } else {
-        twofold(rt, store)
-    }
+    let mut memory = vec![in heap; u32::MAX; BitStore::words_needed(sizes)]?;
+    L::over(rt, BitStore::new(sizes, memory.as_mut_slice()))
 }
 
 #[test]
 fn one_layer(rt: HostRuntime) -> Result<(), Fail> {
-    over_list(&rt, rt.alloc(), 1)?;
-    over_bits(&rt, rt.alloc(), 1)
+    over_list::<One>(&rt, rt.alloc())?;
+    over_bits::<One>(&rt, rt.alloc())
 }
 
 #[test]
 fn two_layers(rt: HostRuntime) -> Result<(), Fail> {
-    over_list(&rt, rt.alloc(), 2)?;
-    over_bits(&rt, rt.alloc(), 2)
+    over_list::<Two>(&rt, rt.alloc())?;
+    over_bits::<Two>(&rt, rt.alloc())
 }

@@ -11,7 +11,7 @@ pub enum MakeRefusal {
 }
 
 impl MakeRefusal {
-    // Stays: each refusal casts itself, in one line, and a trait of refusals would want the same line of each.
+    // Stays: a cast in one line; a trait of refusals would want the same line of each.
     pub fn number(self) -> u8
         ensures { result ≡ make_number self }
     {

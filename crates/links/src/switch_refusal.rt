@@ -15,6 +15,7 @@ pub enum SwitchRefusal {
 }
 
 impl SwitchRefusal {
+    // Stays: a cast in one line; a trait of refusals would want the same line of each.
     pub fn number(self) -> u8
         ensures { result ≡ switch_number self }
     {

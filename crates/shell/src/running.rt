@@ -23,6 +23,7 @@ struct Console<R, W> {
 impl<R: BufRead, W: Write> Console<R, W> {
     // Serves lines until a store is made; none at the end of the input.
     fn play<S: Service>(&mut self, service: &mut S) -> io::Result<Option<Plan>> {
+        // Stays: a count of lines, since nothing says that an input ends.
         for _ in 0..u64::MAX {
             let Some(line) = self.session.next_line()? else {
                 break;
@@ -78,7 +79,7 @@ pub fn run(rt: &HostRuntime) -> io::Result<()> {
         desk: Desk::new(heap),
     };
     let mut next = console.play(&mut NoStore)?;
-    // Nothing says that an input ends, so the stores are counted.
+    // Stays: a count of stores, since nothing says that an input ends.
     for _ in 0..u64::MAX {
         let Some(plan) = next else {
             break;

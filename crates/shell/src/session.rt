@@ -34,7 +34,7 @@ impl<R: BufRead, W: Write> Session<R, W> {
 
     // Reads the next line that is not passed over, and echoes it; none at the end of the input.
     pub fn next_line(&mut self) -> io::Result<Option<Vec<u8>>> {
-        // Nothing says that an input ends, so the lines are counted.
+        // Stays: a count of lines, since nothing says that an input ends.
         for _ in 0..u64::MAX {
             let Some(line) = self.read_line()? else {
                 break;

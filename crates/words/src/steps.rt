@@ -130,13 +130,10 @@ impl State {
                 let limit = self.variables.saturating_add(n);
                 self.with_run(Stage::MakesOpened, limit, 12)
             }
-            Item::Ends => {
-                let rules = self.rules.saturating_add(1);
-                State {
-                    rules,
-                    ..State::start()
-                }
-            }
+            Item::Ends => State {
+                rules: self.rules.saturating_add(1),
+                ..State::start()
+            },
         }
     }
 

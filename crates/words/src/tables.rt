@@ -3,6 +3,7 @@ use crate::faults::Layer;
 
 // By stage, in the order of `Stage`: whether a word may follow that opens a rule, links, opens a ban, shares, strikes a need,
 // strikes a thing, makes, or ends the rule.
+// Stays: a rule of the project, which words may follow is one table to read beside the format's.
 pub const MAY: [[bool; 8]; 10] = [
     [true, false, false, false, false, false, false, false],
     [false, true, false, false, false, false, false, false],
@@ -17,6 +18,7 @@ pub const MAY: [[bool; 8]; 10] = [
 ];
 
 // By fault, in the order of `RuleFault` and then of `Cause`: its number, and the layer that finds it.
+// Stays: a rule of the project, the faults are one table with each fault's layer.
 pub const FAULTS: [(u8, Layer); 12] = [
     (10, Layer::Word),
     (11, Layer::Rule),

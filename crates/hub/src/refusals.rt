@@ -15,6 +15,7 @@ pub enum HubRefusal {
 }
 
 impl HubRefusal {
+    // Stays: a cast in one line; a trait of refusals would want the same line of each.
     pub fn number(self) -> u8
         ensures { result ≡ ask_number self }
     {
@@ -73,6 +74,7 @@ pub enum WriteRefusal {
 }
 
 impl WriteRefusal {
+    // Stays: a cast in one line; a trait of refusals would want the same line of each.
     pub fn number(self) -> u8
         ensures { result ≡ write_number self }
     {

@@ -8,6 +8,7 @@ use crate::runs::{Run, first_number, run_end};
 use words::Kind;
 
 // One ban's words, and the place of the first.
+// Stays: a rule of the project, nothing is asked of the words; so what they say is a premise of each promise, and no invariant.
 #[derive(Clone, Copy, Debug, PartialEq, Eq)]
 pub struct BanRun<'a> {
     pub place: usize,

@@ -10,6 +10,7 @@ use crate::runs::{Run, first_number, part_end};
 use words::Kind;
 
 // One rule's words, and the place of the first.
+// Stays: a rule of the project, nothing is asked of the words; so what they say is a premise of each promise, and no invariant.
 #[derive(Clone, Copy, Debug, PartialEq, Eq)]
 pub struct RuleRun<'a> {
     pub place: usize,

@@ -11,6 +11,7 @@ use std::ops::RangeInclusive;
 use words::{Kind, RuleFault, low_byte};
 
 // Some of the given words, and the place of the first.
+// Stays: a run, a ban and a rule are three types of one shape, so that nobody asks of a ban what is a rule's.
 #[derive(Clone, Copy, Debug, PartialEq, Eq)]
 pub struct Run<'a> {
     pub place: usize,
@@ -19,7 +20,7 @@ pub struct Run<'a> {
 
 impl<'a> Run<'a> {
     // The words after the first, as far as they are of these kinds.
-    pub fn after_first(self, kinds: RangeInclusive<Kind>) -> Run<'a>
+    pub(crate) fn after_first(self, kinds: RangeInclusive<Kind>) -> Run<'a>
         ensures { self.entry.place + length self.entry.words.now ≤ 1024 → 1 ≤ length self.entry.words.now → RunIs (self.entry.place + 1) (take (span (kind_number (range_inclusive_start kinds)) (kind_number (range_inclusive_end kinds)) (drop 1 self.entry.words.now)) (drop 1 self.entry.words.now)) result }
     {
         let from = self.words.len().min(1);
@@ -31,7 +32,7 @@ impl<'a> Run<'a> {
     }
 
     // Refuses the first word that has the fault, as the test says of a word and its number in the run.
-    pub fn check_words<F: Fn(usize, u32) -> bool>(
+    pub(crate) fn check_words<F: Fn(usize, u32) -> bool>(
         self,
         has_fault: F,
         fault: RuleFault,
@@ -62,6 +63,7 @@ pub fn first_number(words: &[u32]) -> u32
 }
 
 // Is the word of one of the kinds?
+// Stays: kinds stand in the order of their numbers in the format, and are compared by these.
 pub fn is_of(word: u32, kinds: &RangeInclusive<Kind>) -> bool
     ensures { result ≡ within (kind_number (range_inclusive_start kinds.now)) (kind_number (range_inclusive_end kinds.now)) word }
 {

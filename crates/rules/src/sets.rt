@@ -12,6 +12,7 @@ use crate::runs::run_end;
 use words::Kind;
 
 // The words of a rule set, and how many rules they say.
+// Stays: a rule of the project, nothing is asked of the words; so what they say is a premise of each promise, and no invariant.
 #[derive(Clone, Copy, Debug, PartialEq, Eq)]
 pub struct RuleSet<'a> {
     pub words: &'a [u32],

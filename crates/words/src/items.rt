@@ -20,6 +20,7 @@ pub enum Kind {
 
 impl Kind {
     // The kind of a word, none where its number is outside 1 to 9.
+    // Stays: the one place that takes the kinds' numbers of the format apart.
     pub fn of(word: u32) -> Option<Kind>
         ensures { result ≡ kind_of word }
     {

@@ -7,9 +7,9 @@ use crate::faults::{Cause, RuleFault};
 use crate::items::{Item, PatternLink, Share, Target};
 use crate::stages::{Stage, allowed};
 
-// The counts of a reading are small, at most 1,024, and saturate so that no caller has to show it.
 // How far a reading has come: the rules ended, the open rule's variables, needs and bans, and of the open run of links,
 // ban variables or strikes the variables that it may name, the most it may have, and how many were seen.
+// Stays: a rule of the project, nothing is asked of a state; so that its counts are small, which saturate, is a premise of each promise.
 #[derive(Clone, Copy, Debug, PartialEq, Eq)]
 pub struct State {
     pub stage: Stage,

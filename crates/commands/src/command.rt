@@ -1,4 +1,4 @@
-ghost use Rattle.std.specs.Prelude.{Some};
+ghost use Rattle.std.specs.Prelude.{◌≡◌, Some};
 ghost use Rattle.commands.specs.Texts.{missing_text};
 
 use links::Link;
@@ -86,11 +86,12 @@ pub enum Missing {
     Layer,
 }
 
-impl fmt::Display for Missing {
-    ghost output = { λ m. Some (missing_text m) };
-
-    fn fmt<W: fmt::Write>(&self, f: &mut fmt::Formatter<W>) -> fmt::Result {
-        f.write_str(match self {
+impl Missing {
+    // Stays: a text that cannot fail, which `Display` prints.
+    pub fn text(self) -> &'static str
+        ensures { result.now ≡ missing_text self }
+    {
+        match self {
             Missing::Command => "no such command",
             Missing::Kind => "a store is list or bits",
             Missing::Number => "a number is missing, decimal and below 4294967296",
@@ -100,6 +101,14 @@ impl fmt::Display for Missing {
             Missing::Word => "a word is 8 hexadecimal digits in upper case",
             Missing::Hub => "no hub",
             Missing::Layer => "no layer that holds changes",
-        })
+        }
+    }
+}
+
+impl fmt::Display for Missing {
+    ghost output = { λ m. Some (missing_text m) };
+
+    fn fmt<W: fmt::Write>(&self, f: &mut fmt::Formatter<W>) -> fmt::Result {
+        f.write_str(self.text())
     }
 }

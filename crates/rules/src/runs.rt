@@ -63,7 +63,7 @@ pub fn first_number(words: &[u32]) -> u32
 }
 
 // Is the word of one of the kinds?
-// Stays: kinds stand in the order of their numbers in the format, and are compared by these.
+// Stays: `contains` over an order of `Kind` would compare the same numbers, of which the promise speaks.
 pub fn is_of(word: u32, kinds: &RangeInclusive<Kind>) -> bool
     ensures { result ≡ within (kind_number (range_inclusive_start kinds.now)) (kind_number (range_inclusive_end kinds.now)) word }
 {

@@ -9,7 +9,7 @@ use crate::stages::{Stage, allowed};
 
 // How far a reading has come: the rules ended, the open rule's variables, needs and bans, and of the open run of links,
 // ban variables or strikes the variables that it may name, the most it may have, and how many were seen.
-// Stays: a rule of the project, nothing is asked of a state; so that its counts are small, which saturate, is a premise of each promise.
+// Stays: a rule of the project, nothing is asked of a state: its counts saturate, and that they are small is a premise of each promise.
 #[derive(Clone, Copy, Debug, PartialEq, Eq)]
 pub struct State {
     pub stage: Stage,

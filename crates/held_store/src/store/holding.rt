@@ -73,6 +73,7 @@ impl<S: Store> HeldStore<S> {
         self.on.push(link);
     }
 
+    // Stays: like `hold_on`, but a set past its limit is a case that only this one has.
     // Holds the link off, which is on; a seventeenth change first sends the others down. A set past the limit,
     // which switching does not make, would not go down whole: the link is then switched off below.
     pub(super) fn hold_off(&mut self, link: Link)

@@ -11,7 +11,7 @@ impl Sizes {
     pub fn ask(things: u32, limit: usize) -> Result<Sizes, MakeRefusal>
         ensures { Asked things limit (InRange things limit) result }
     {
-        if things < 1 || things > 448 || limit < 1 || limit > 4096 {
+        if !(1..=448).contains(&things) || !(1..=4096).contains(&limit) {
             return Err(MakeRefusal::OutOfRange);
         }
         Ok(Sizes { things, limit })

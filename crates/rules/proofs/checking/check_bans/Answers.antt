@@ -1,15 +1,8 @@
-use Rattle.std.proofs.Common.{◌+◌, length, Some, None, Ok, Err, sym, refl, ap, ◌∙◌, subst, ⊎_elim, rules, arith}
+use Rattle.std.proofs.Common.{◌+◌, length, Some, Ok, Err, sym, refl, ◌∙◌, subst, rules}
 use Rattle.std.proofs.lemmas.Result.{err_from_is_err_and}
-use Rattle.rules.proofs.Counted.{some_turn, none_turn}
-use Rattle.rules.proofs.BanMarks.{BanHanded, BansFrom, bans_first, bans_end, bans_all, bans_hit, bans_miss}
+use Rattle.rules.proofs.Counted.{some_turn}
+use Rattle.rules.proofs.BanMarks.{BanHanded, BansFrom, bans_hit, bans_miss}
 use Rattle.rules.proofs.checking.check_bans.Goals as goal
-
-pub loop-ban-init : goal.loop-ban-init
-loop-ban-init c =
-    let e = c.into_iter-ban-iterator.ensures.into_iter_gives in
-    let s = c.map_while-ban-items.ensures.source in
-    let f = c.map_while-ban-items.ensures.closure in
-    (ap (λ z. z.iter.end) e ∙ ap (λ z. z.end) s, ap (λ z. z.f.0.now) e ∙ ap (λ z. z.0.now) f, λ r h. subst (BansFrom (c.args.rule.place + 1 + length r.needs) r.bans) (sym (ap (λ z. z.iter.start) e ∙ ap (λ z. z.start) s)) (bans_first (c.args.rule.place + 1 + length r.needs) r.bans))
 
 pub loop-ban-preserved : goal.loop-ban-preserved
 loop-ban-preserved c =
@@ -33,14 +26,3 @@ returns-in_err-check_ban c =
     let e = err_from_is_err_and c.from_residual.result c.from_residual.ensures.1 in
     λ r h.
     rw (e.1, e.2) (bans_hit r.variables (c.args.rule.place + 1 + length r.needs) r.bans i (c.loop-ban.invariant.2 r h) c.in-Some.ban (Err c.in_err-check_ban.field-0.0) c.in_err-check_ban.ensures c.in_err-check_ban.field-0.0 (b r h) refl)
-
-pub returns : goal.returns
-returns c =
-    let i = c.loop-ban.ban-iterator.iter.start in
-    λ r h.
-    let p = c.args.rule.place + 1 + length r.needs in
-    ⊎_elim (λ l. bans_all r.variables p r.bans i (c.loop-ban.invariant.2 r h) (let z = h.formed.few in let y = c.loop-ban.invariant.0 in omega arith))
-    (λ called.
-    let b : BanHanded c.args.rule i None = subst (λ q. BanHanded q i None) c.loop-ban.invariant.1 (λ r h. search rules) in
-    bans_end r.variables p r.bans i (c.loop-ban.invariant.2 r h) (b r h))
-    (none_turn _ _ _ _ _ c.in-None.ensures.steps)

@@ -1,9 +1,7 @@
-use Rattle.std.proofs.Common.{◌≡◌, [], length, get_or, Err, sym, ap, ◌∙◌, arith}
-use Rattle.words.specs.declared.faults.Cause.TheVariants.{InRule}
-use Rattle.words.specs.declared.faults.RuleFault.TheVariants.{OutOfPlace}
+use Rattle.std.proofs.Common.{[], get_or, sym, ap, ◌∙◌, arith}
 use Rattle.words.specs.Steps.{step_of}
 use Rattle.rules.specs.Rules.{outside}
-use Rattle.rules.proofs.Machine.{start_at, start_counts, counts_small, at_more, at_stop, at_out, at_in}
+use Rattle.rules.proofs.Machine.{start_at, start_counts, counts_small, at_more, at_stop}
 use Rattle.rules.proofs.scanning.scan.Goals as goal
 
 pub loop-at-init : goal.loop-at-init
@@ -20,12 +18,3 @@ loop-at-preserved c =
     let k = c.loop-at.invariant.0 in
     let e = ap (step_of c.loop-at.state (get_or c.args.words.now c.loop-at.at 0)) (sym c.repeated-repeats.ensures) ∙ sym (c.in-Ok.ensures (counts_small c.loop-at.at c.loop-at.state c.loop-at.invariant.1 (omega arith))) in
     at_more c.args.words.now c.loop-at.at c.loop-at.state k.0 k.1 c.loop-at-test.true c.in-Ok.next e c.loop-at.invariant.1
-
-pub returns-in-Outside : goal.returns-in-Outside
-returns-in-Outside c = let k = c.loop-at.invariant.0 in at_out c.args.words.now c.loop-at.at c.loop-at.state k.0 k.1 c.loop-at-test.false c.in-Outside.is
-
-pub returns-in_default : goal.returns-in_default
-returns-in_default c =
-    let k = c.loop-at.invariant.0 in
-    let q : c.loop-at.at ≡ length c.args.words.now = omega arith in
-    ap (λ z. Err (record { place = z; rule = c.loop-at.state.rules; cause = InRule OutOfPlace })) (sym q) ∙ at_in c.args.words.now c.loop-at.at c.loop-at.state k.0 k.1 c.loop-at-test.false c.in_default.not-Outside

@@ -13,10 +13,3 @@ invariant_of-result c =
     let none = links_cleared c.fill.new.self (drop n c.args.words.now) t n (c.fill.ensures.after (λ y e. e) ∙ ap (λ v. replicate v 0) l) (omega (arith, words_hold t, c.words_needed.ensures.is)) in
     let long : words_for t ≤ length (c.fill.new.self ++ drop n c.args.words.now) = omega (arith, c.requires, c.words_needed.ensures.is, c.fill.ensures.len, l, length-drop n c.args.words.now, length-append c.fill.new.self (drop n c.args.words.now)) in
     record { long = long; counted = ap length (sym none); few = zero-le; rises = rising_links _ t; within = inside_links _ t }
-
-pub returns-clause-empty : goal.returns-clause-empty
-returns-clause-empty c =
-    let t = c.args.sizes.things in
-    let n = c.words_needed.result in
-    let l = length-take-le n c.args.words.now (omega (arith, c.requires, c.words_needed.ensures.is)) in
-    links_cleared c.fill.new.self (drop n c.args.words.now) t n (c.fill.ensures.after (λ y e. e) ∙ ap (λ v. replicate v 0) l) (omega (arith, words_hold t, c.words_needed.ensures.is))

@@ -8,6 +8,7 @@ use arrayvec::ArrayVec;
 use link_edits::{Edit, carry_out};
 use links::{Link, Links, Store};
 
+// Stays: that the sizes stay relates the set before to the set after, which no type can say; each call says it.
 impl<S: Store> HeldStore<S> {
     // A layer that holds nothing.
     pub fn new(base: S) -> HeldStore<S>

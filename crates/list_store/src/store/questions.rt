@@ -40,7 +40,8 @@ impl<'a> Links for ListStore<'a> {
         })
     }
 
-    // One pass over the links, where the trait's default asks for each label.
+    // Stays: one pass over the links; with the trait's default a spare thing took 46 ms in place of 70 µs, of 448
+    // things and 3,576 links.
     fn is_touched(&self, thing: u32) -> bool {
         self.list.as_slice().iter().any(|link| link.touches(thing))
     }

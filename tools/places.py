@@ -17,7 +17,8 @@ PLACES = [
     (1, "a fault handed on as an Option", r"-> Option<\(usize, RuleFault\)>|let Some\(_\) ="),
     (1, "a number in place of nothing", r"\(\) -> u8"),
     (1, "numbers for kinds", r">> 28|run_end\([\w.]+, [\w +]+, \d, \d\)|(?m:^\s+\d(?: \| \d)* (?:if rest < \d+ )?=> )"),
-    (1, "an Option or a Result taken apart to be handed on", r"None => None|Err\(_\) => (?:None|false)|else \{\s*return None;|Some\(found\) => (?:Some\(found\)|\{\s*return)"),
+    (1, "numbers that a table is looked up by", r"(?m:^\s+(?:Item|RuleFault|Cause)::\w+(?:\(_\))? => \d+,)"),
+    (1, "an Option or a Result taken apart to be handed on", r"None => None|Err\(_\) => (?:None|false)|else \{\s*return None;|Some\(found\) => (?:Some\(found\)|\{\s*return)|(?:if let Err\(\w+\) = [^{]+|Err\(\w+\) => )\{\s*return Err"),
     (2, "a loop of one's own for `contains` or `any`", r"twins:fn (?:contains|is_among|is_struck|shares_any|shares_with|has_anchor)\b[^{]*(?:\{[^\n]*\}\n[^{]*)*\{\n\s+for "),
     (2, "whether a link anchors a variable", r"twins:fn is_anchor\b"),
     (2, "whether a link touches a thing", r"twins:fn is_touched"),
@@ -40,7 +41,7 @@ PLACES = [
     (2, "a change held", r"twins:fn hold_o\w+"),
     (3, "a while that counts", r"while \w+ [<>]=? ?\w"),
     (3, "a for over numbers that are places, or that only count", r"for \w+ in 0\.\.(?:4 \{\n\s+let|[a-z(])"),
-    (3, "a for that only searches or folds", r"for \w+ in [^{\n]+\{\n(?:\s+let [^\n]+\n)?\s+if [^\n]+\{\n\s+return|for \w+ in [^{\n]+\{\n\s+if let Some\(_\)|let Some\(next\) = with_\w+"),
+    (3, "a for that only searches", r"for \w+ in [^{\n]+\{\n(?:\s+let [^\n]+\n)?\s+if [^\n]+\{\n\s+return|for \w+ in [^{\n]+\{\n\s+if let Some\(_\)|let Some\(next\) = with_\w+"),
     (4, "a text of one's own", r"fn (?:text|\w+_text)\("),
     (4, "an equality or an order of one's own", r"fn is_same\b|self\.source < other\.source"),
     (4, "a conversion of one's own", r"fn (?:read_word|link_of|share_of|one_if|switched|numbered|rules_answer)\b"),
@@ -56,10 +57,10 @@ PLACES = [
     (5, "words say a rule or a ban", r"(?:RuleHere|BanHere|RuleAt|BanAt) \S+ [^→]*→"),
     (5, "the counts of a reading are small", r"Small s\w* →"),
     (6, "a length beside an array or a slice", r"\n    len: usize,|out: &mut \[u32\], at: usize"),
-    (6, "an index that runs beside a slice", r"words\[i\] = 0|out\[at \+ k\] = 0xD000_0000 \+ things\[k\]|let mid = low"),
+    (6, "an index that runs beside a slice", r"words\[i\] = 0|out\[at \+ k\] = |let mid = low"),
     (6, "a buffer kept beside what it is read into", r"\n    line: Vec<u8>,|\n    words: Vec<u32>,\n\}"),
     (7, "an enum that says which step to run", r"enum (?:Class|Verb|HubVerb)\b"),
-    (7, "a number or a bool that says which step to run", r"layers: u32|fn play_either"),
+    (7, "a number or a bool that says which step to run", r"layers: u32|(?<!pub )\bheld: bool,\s"),
 ]
 
 

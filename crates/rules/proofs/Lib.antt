@@ -20,3 +20,4 @@ pub mod Marking
 pub mod PartRuns
 pub mod Pieces
 pub mod Walking
+mod Mapped

@@ -1,4 +1,5 @@
 // The second pass over one rule: numbers 14, 15 and 17.
+// Stays: a rule of the project, nothing is asked of the words; so what they say is a premise of each promise, and no invariant.
 ghost use Rattle.std.specs.Prelude.{◌≡◌, ℕ, ◌+◌, ◌≤◌, ◌&&◌, map, length, nat_eq};
 ghost use Rattle.words.specs.Words.{link_of};
 ghost use Rattle.rules.specs.Rules.{Ban, Rule, thing_words};

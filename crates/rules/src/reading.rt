@@ -18,9 +18,7 @@ fn check(set: RuleSet) -> Result<(), SetFault>
 {
     let rules = (0..set.rules).map_while(|i| set.rule(i));
     for (i, rule) in rules.enumerate() {
-        if let Err(found) = check_rule(rule) {
-            return Err(found.in_rule(i));
-        }
+        check_rule(rule).map_err(|found| found.in_rule(i))?;
     }
     Ok(())
 }

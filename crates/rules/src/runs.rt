@@ -11,7 +11,8 @@ use std::ops::RangeInclusive;
 use words::{Kind, RuleFault, low_byte};
 
 // Some of the given words, and the place of the first.
-// Stays: a run, a ban and a rule are three types of one shape, so that nobody asks of a ban what is a rule's.
+// Stays: a run, a ban and a rule are three types of one shape, so that nobody asks of a ban what is a rule's; their fields
+// are public, and so each has both.
 #[derive(Clone, Copy, Debug, PartialEq, Eq)]
 pub struct Run<'a> {
     pub place: usize,
@@ -63,12 +64,11 @@ pub fn first_number(words: &[u32]) -> u32
 }
 
 // Is the word of one of the kinds?
-// Stays: `contains` over an order of `Kind` would compare the same numbers, of which the promise speaks.
+// Stays: the promise speaks of the format's numbers; of an order of `Kind` it would have to be shown that it is theirs.
 pub fn is_of(word: u32, kinds: &RangeInclusive<Kind>) -> bool
     ensures { result ≡ within (kind_number (range_inclusive_start kinds.now)) (kind_number (range_inclusive_end kinds.now)) word }
 {
-    let number = word >> 28;
-    kinds.start().number() <= number && number <= kinds.end().number()
+    (kinds.start().number()..=kinds.end().number()).contains(&(word >> 28))
 }
 
 // Where the run of words of these kinds that begins at `from` ends: `from` itself where none begins.

@@ -14,18 +14,11 @@ pub fn scan(words: &[u32]) -> Result<usize, SetFault>
     let mut state = State::start();
     for (at, word) in words.iter().enumerate() {
         let repeats = repeated(words, at, state.seen);
-        match state.step(*word, repeats) {
-            Ok(next) => {
-                state = next;
-            }
-            Err(cause) => {
-                return Err(SetFault {
-                    place: at,
-                    rule: state.rules,
-                    cause,
-                });
-            }
-        }
+        state = state.step(*word, repeats).map_err(|cause| SetFault {
+            place: at,
+            rule: state.rules,
+            cause,
+        })?;
     }
     match state.stage {
         Stage::Outside => Ok(state.rules),

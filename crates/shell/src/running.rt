@@ -44,6 +44,7 @@ impl<R: BufRead, W: Write> Console<R, W> {
     }
 
     // Serves lines with the store, or with a layer over it that holds changes back.
+    // Stays: a line asks for a layer while the program runs, and a type is chosen before; `dyn` would want the same branch.
     fn play_over<S: Store + Drop>(&mut self, held: bool, store: S) -> io::Result<Option<Plan>> {
         if held {
             self.play(&mut HeldStore::new(store))

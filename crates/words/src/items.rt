@@ -20,7 +20,7 @@ pub enum Kind {
 
 impl Kind {
     // The kind of a word, none where its number is outside 1 to 9.
-    // Stays: the one place that takes the format's numbers apart; `TryFrom` would want an error that nobody reads.
+    // Stays: the one place that gives the format's numbers their kinds; `TryFrom` would want an error that nobody reads.
     pub fn of(word: u32) -> Option<Kind>
         ensures { result ≡ kind_of word }
     {

@@ -2,6 +2,8 @@
 use Rattle.std.specs.Prelude.{ℕ, ◌+◌, ◌-◌, ◌*◌, ◌%◌, ◌^◌, Bool, true, cond, not, ◌&&◌, ◌||◌, List, [], ◌∷◌, length, take, drop, Some, None, fold, Option, ◌==◌, nat_le, nat_lt, slice_index}
 use Rattle.std.specs.Option.{option_map}
 use Rattle.std.specs.List.{prefix_len}
+use Rattle.commands.specs.declared.words.Class.{Class}
+use Rattle.commands.specs.declared.words.Class.TheVariants.{Blank, NonBlank, NonDash}
 
 -- space, tab and carriage return
 abbrev pub blank : ℕ → Bool
@@ -14,6 +16,16 @@ visible b = not (blank b)
 -- what may stand before the first dash
 abbrev pub dashless : ℕ → Bool
 dashless b = not (b == 45)
+
+-- a blank; no blank; no dash
+abbrev pub within : Class → ℕ → Bool
+within Blank b = blank b
+within NonBlank b = visible b
+within NonDash b = dashless b
+
+-- how many bytes in front are of the class
+abbrev pub run : Class → List ℕ → ℕ
+run k bs = prefix_len (within k) bs
 
 -- a line without the blanks in front
 abbrev pub trimmed : List ℕ → List ℕ

@@ -2,7 +2,7 @@ ghost use Rattle.std.specs.Prelude.{◌≡◌, ℕ, Bool, ◌<◌, ◌≤◌, �
 ghost use Rattle.std.specs.Option.{option_map};
 ghost use Rattle.std.specs.Iterator.{at_most};
 ghost use Rattle.std.specs.List.{prefix_len};
-ghost use Rattle.commands.specs.Words.{after_word, blank, decimal, first_word, hex_digit, hex_word, is_passed, next_word, with_digit, with_hex_digit};
+ghost use Rattle.commands.specs.Words.{after_word, blank, decimal, first_word, hex_digit, hex_word, is_passed, next_word, run, with_digit, with_hex_digit, within};
 ghost use Rattle.commands.specs.Parts.{before_dash, link_from};
 
 use links::Link;
@@ -13,8 +13,36 @@ fn is_blank(byte: u8) -> bool
     matches!(byte, b' ' | b'\t' | b'\r')
 }
 
+// Which bytes a run is made of.
+#[derive(Clone, Copy, PartialEq, Eq, Debug)]
+pub enum Class {
+    Blank,
+    NonBlank,
+    NonDash,
+}
+
+impl Class {
+    fn has(self, byte: u8) -> bool
+        ensures { result ≡ within self byte }
+    {
+        match self {
+            Class::Blank => is_blank(byte),
+            Class::NonBlank => !is_blank(byte),
+            Class::NonDash => byte != b'-',
+        }
+    }
+}
+
+// How many bytes in front are of the class.
+pub fn run_len(text: &[u8], class: Class) -> usize
+    ensures is { result ≡ run class text.now }
+    ensures inside { result ≤ length text.now }
+{
+    run_len_by(text, |byte| class.has(byte))
+}
+
 // How many bytes in front pass the test.
-pub fn run_len<F: Fn(u8) -> bool>(text: &[u8], passes: F) -> usize
+pub fn run_len_by<F: Fn(u8) -> bool>(text: &[u8], passes: F) -> usize
     requires { F.IsAlwaysCallable passes }
     ensures is { (test : ℕ → Bool) → ((byte : ℕ) (answer : Bool) → F.post passes byte answer → answer ≡ test byte) → result ≡ prefix_len test text.now }
     ensures inside { result ≤ length text.now }
@@ -126,8 +154,8 @@ impl<'a> Iterator for Words<'a> {
     ghost remaining = { λ words. at_most (length words.text.now) };
 
     fn next(&mut self) -> Option<&'a [u8]> {
-        let (_, text) = self.text.split_at(run_len(self.text, is_blank));
-        let (word, rest) = text.split_at(run_len(text, |byte| !is_blank(byte)));
+        let (_, text) = self.text.split_at(run_len_by(self.text, is_blank));
+        let (word, rest) = text.split_at(run_len_by(text, |byte| !is_blank(byte)));
         self.text = rest;
         if word.is_empty() { None } else { Some(word) }
     }

@@ -1,6 +1,7 @@
 -- Held changes stay few, and each differs from what lies below.
-use Rattle.std.proofs.Common.{◌≡◌, ℕ, ◌≤◌, Bool, true, false, not, ◌&&◌, ◌||◌, List, [], ◌∷◌, length, sym, refl, ap, ◌∙◌, ⊎_elim, arith}
-use Rattle.std.proofs.lemmas.Bool.{cond_both, both_ways, and_parts, and_right, cases_Bool, or_cases}
+use Rattle.std.proofs.Common.{◌≡◌, ℕ, ◌≤◌, Bool, true, false, cond, not, ◌&&◌, ◌||◌, ltb, leb, List, [], ◌∷◌, length, sym, refl, ap, ◌∙◌, ⊎_elim, arith}
+use Rattle.std.proofs.lemmas.Bool.{cond_both, both_ways, and_parts, and_right, cases_Bool, or_cases, ltb-true}
+use Rattle.std.proofs.lemmas.List.{length_push}
 use Rattle.ordered.specs.Order.{same}
 use Rattle.ordered.proofs.Members.{has_without}
 use Rattle.links.specs.declared.link.Link.{Link}
@@ -9,13 +10,33 @@ use Rattle.links.specs.Order.{link_order}
 use Rattle.links.proofs.Order.{same_is}
 use Rattle.link_edits.proofs.Edits.{member_edited}
 use Rattle.link_edits.proofs.Loops.{member_push}
-use Rattle.held_store.specs.Layers.{Layer, Fresh, set_in, nothing_held, held_on, held_off, back_off, back_on, below_off}
+use Rattle.held_store.specs.Layers.{Layer, Fresh, set_in, held_in, nothing_held, sent_down, held_on, held_off, back_off, back_on, below_off, on_held, off_held, turned_on, turned_off}
 
 pub removed_short : (l : Link) (xs : List Link) → length (removed l xs) ≤ length xs
 removed_short l [] = omega arith
 removed_short l (x ∷ xs) =
     let h = removed_short l xs in
     cond_both (same link_before l x) (removed l xs) (x ∷ removed l xs) (λ v. length v ≤ length (x ∷ xs)) (λ _. omega arith) (λ _. omega arith)
+
+-- no more than sixteen
+module _ (n limit : ℕ) (l : Link) (s : Layer) (h : held_in s ≤ 16) where
+  pub few_on : held_in (turned_on n l s) ≤ 16
+  few_on =
+      cond_both (member l s.below) (back_off l s) (on_held n l s) (λ v. held_in v ≤ 16)
+      (λ _. omega (arith, removed_short l s.off))
+      (λ _. cond_both (ltb (held_in s) 16) (held_on l s) (held_on l (sent_down n s)) (λ v. held_in v ≤ 16)
+      (λ e. omega (arith, ltb-true (held_in s) 16 e, length_push s.on l))
+      (λ _. omega arith))
+
+  pub few_off : held_in (turned_off n limit l s) ≤ 16
+  few_off =
+      let left = back_on l s in
+      let k = removed_short l s.on in
+      cond_both (member l s.below) (off_held n limit l left) left (λ v. held_in v ≤ 16)
+      (λ _. cond_both (ltb (held_in left) 16) (held_off l left) (cond (leb (length (set_in n left)) limit) (held_off l (sent_down n left)) (below_off l left)) (λ v. held_in v ≤ 16)
+      (λ e. omega (arith, ltb-true (held_in left) 16 e, length_push s.off l))
+      (λ _. cond_both (leb (length (set_in n left)) limit) (held_off l (sent_down n left)) (below_off l left) (λ v. held_in v ≤ 16) (λ _. omega arith) (λ _. omega arith)))
+      (λ _. omega arith)
 
 pub fresh_none : (ls : List Link) → Fresh (nothing_held ls)
 fresh_none ls = record { ons = λ x h. absurd (both_ways false refl h); offs = λ x h. absurd (both_ways false refl h) }
@@ -62,3 +83,21 @@ still_on n l s o b = member_edited n s.off s.on s.below l ∙ ap (λ v. (inside 
     or_true : (a : Bool) → (a || true) ≡ true
     or_true true = refl
     or_true false = refl
+
+module _ (n limit : ℕ) (l : Link) (s : Layer) (f : Fresh s) where
+  pub fresh_on : member l (set_in n s) ≡ false → Fresh (turned_on n l s)
+  fresh_on m =
+      cond_both (member l s.below) (back_off l s) (on_held n l s) (λ v. Fresh v)
+      (λ _. fresh_back_off l s f)
+      (λ e. cond_both (ltb (held_in s) 16) (held_on l s) (held_on l (sent_down n s)) (λ v. Fresh v) (λ _. fresh_held_on l s f e) (λ _. fresh_held_on l (sent_down n s) (fresh_none (set_in n s)) m))
+
+  pub fresh_off : member l (set_in n s) ≡ true → Fresh (turned_off n limit l s)
+  fresh_off m =
+      let left = back_on l s in
+      cond_both (member l s.below) (off_held n limit l left) left (λ v. Fresh v)
+      (λ b. cond_both (ltb (held_in left) 16) (held_off l left) (cond (leb (length (set_in n left)) limit) (held_off l (sent_down n left)) (below_off l left)) (λ v. Fresh v)
+      (λ _. fresh_held_off l left (fresh_back_on l s f) b)
+      (λ _. cond_both (leb (length (set_in n left)) limit) (held_off l (sent_down n left)) (below_off l left) (λ v. Fresh v)
+      (λ _. fresh_held_off l (sent_down n left) (fresh_none (set_in n left)) (still_on n l left (not_held_off l s f n m b) b))
+      (λ _. fresh_below_off l left (fresh_back_on l s f) (not_held_off l s f n m b))))
+      (λ _. fresh_back_on l s f)

@@ -1,20 +1,17 @@
-ghost use Rattle.std.specs.Prelude.{◌≤◌};
-ghost use Rattle.held_store.specs.Layers.{Fresh, held_in, layer};
+ghost use Rattle.std.specs.Prelude.{◌+◌, ◌≤◌, length};
 
 use arrayvec::ArrayVec;
-use links::{Link, Store};
+use links::Link;
 
 mod holding;
 mod questions;
 mod switching;
 
-// A store, and the links that it is to have off and on besides: sixteen at most, each of which
-// differs from what the store has.
+// A store, and the links that it is to have off and on besides: sixteen at most.
 #[derive(Drop)]
-pub struct HeldStore<S: Store> {
+pub struct HeldStore<S> {
     base: S,
     off: ArrayVec<Link, 16>,
     on: ArrayVec<Link, 16>,
-    ghost few: { held_in (layer (S.Links.set base).links off.items on.items) ≤ 16 },
-    ghost fresh: { Fresh (layer (S.Links.set base).links off.items on.items) },
+    pub ghost few: { length off.items + length on.items ≤ 16 },
 }

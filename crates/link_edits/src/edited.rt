@@ -8,7 +8,7 @@ ghost use Rattle.link_edits.specs.Edits.{after, without_all};
 ghost use Rattle.link_edits.specs.Laws.{edited_lawful};
 
 use crate::adjacency::{Adjacency, Direction};
-use crate::edit::Edit;
+use crate::edit::{Edit, is_same};
 use links::{Link, Links, Sizes};
 
 // The set of a base as an edit would leave it, with the edit not carried out.
@@ -36,7 +36,7 @@ fn next_of_one(sizes: Sizes, link: Link, way: Adjacency, from: u32) -> Option<u3
     if other < from || !sizes.contain(link) {
         return None;
     }
-    (link == way.link_to(other)).then_some(other)
+    is_same(link, way.link_to(other)).then_some(other)
 }
 
 impl<'a, L: Links> Edited<'a, L> {

@@ -8,5 +8,5 @@ mod edited;
 
 pub use adjacency::{Adjacency, Direction};
 pub use carrying::carry_out;
-pub use edit::Edit;
+pub use edit::{Edit, contains, is_same};
 pub use edited::Edited;

@@ -12,6 +12,6 @@ mod questions;
 pub struct OrderedList<'a, R: Keyed> {
     records: &'a mut [R],
     len: usize,
-    ghost fits: { len ≤ length records.now },
-    ghost rises: { ascending R.before (take len records.now) ≡ true },
+    pub ghost fits: { len ≤ length records.now },
+    pub ghost rises: { ascending R.before (take len records.now) ≡ true },
 }

@@ -209,6 +209,7 @@ fn ends_before(words: &[u32], place: usize) -> usize {
 fn a_full_set(rt: HostRuntime) -> Result<(), Fail> {
     let mut words = long(rt.alloc(), 0)?;
     words.extend_from_slice(&RULE)?;
+    assert_eq!(rt; words.len(), 1024);
     let Ok(set) = read(words.as_slice()) else {
         return Err(Fail::new("refused"));
     };

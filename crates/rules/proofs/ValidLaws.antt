@@ -27,6 +27,10 @@ read_cases ws (Err f) e h = let z : ◌≡◌ {A = ℕ} 0 1 = cc in absurd (omeg
 pub accepted_says : (ws : List ℕ) → accepted ws ≡ true → (rs : List Rule) × Says ws rs × (rule_count ws ≡ length rs)
 accepted_says ws h = read_cases ws (reading_of ws) refl h
 
+-- what read words say is accepted
+pub read_accepted : (ws : List ℕ) (rs : List Rule) → reading_of ws ≡ Ok rs → (accepted ws ≡ true) × (rule_count ws ≡ length rs)
+read_accepted ws rs e = (ap is_read e, ap count_of e)
+
 -- a view of words that say rules
 pub set_here : (s : RuleSet) (ws : List ℕ) (rs : List Rule) → Says ws rs → s.words.now ≡ ws → s.rules ≡ length rs → SetHere s rs
 set_here s ws rs h w c =

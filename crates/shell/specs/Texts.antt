@@ -1,5 +1,5 @@
 -- The bytes that an answer is written in.
-use Rattle.std.specs.Prelude.{ℕ, true, false, List, ◌++◌, codes, decimal}
+use Rattle.std.specs.Prelude.{ℕ, true, false, List, ◌++◌, Option, Some, None, codes, decimal}
 use Rattle.hub.specs.Texts.{hub_text, write_text}
 use Rattle.links.specs.Texts.{make_text, switch_text}
 use Rattle.matching.specs.Texts.{survey_text}
@@ -9,6 +9,8 @@ use Rattle.shell.specs.declared.answer.Answer.{Answer}
 use Rattle.shell.specs.declared.answer.Answer.TheVariants.{Taken, Test, Number, Nothing, Refused, Fault, NoMemory, Unknown}
 use Rattle.shell.specs.declared.answer.Refusal.{Refusal}
 use Rattle.shell.specs.declared.answer.Refusal.TheVariants.{Make, Switch, Hub, Write, Survey}
+use Rattle.shell.specs.declared.commissioning.Response.{Response}
+use Rattle.shell.specs.declared.commissioning.Response.TheVariants as response
 use Rattle.commands.specs.Texts.{missing_text}
 use Rattle.shell.specs.Answers.{refusal_number}
 
@@ -32,3 +34,8 @@ answer_text (Fault f) =
     codes "fault " ++ (decimal (number f.cause) ++ (codes " place " ++ (decimal f.place ++ (codes " rule " ++ (decimal f.rule ++ (codes " layer " ++ layer_text (layer_of f.cause)))))))
 answer_text NoMemory = codes "refused for want of memory"
 answer_text (Unknown m) = codes "unknown " ++ missing_text m
+
+-- what a call to the hub gives: an answer as any other; of words it says nothing
+abbrev pub response_text : Response → Option (List ℕ)
+response_text (response.Answer a) = Some (answer_text a)
+response_text (response.Words ws) = None

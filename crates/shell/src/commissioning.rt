@@ -1,6 +1,6 @@
 // The hub that the console commissions, and the calls that go to it.
-ghost use Rattle.std.specs.Prelude.{None};
 ghost use Rattle.shell.specs.Answers.{Commissioned};
+ghost use Rattle.shell.specs.Texts.{response_text};
 
 use crate::answer::Answer;
 use crate::service::Service;
@@ -17,10 +17,12 @@ const ROOM: u32 = 4096;
 // A rule set has no more words, so a longer buffer is used as one of this length.
 const MOST_WORDS: u32 = 1024;
 
+// The hub, and the words that were read last, whose memory serves the next ones too.
 #[derive(Drop)]
 pub struct Desk {
     heap: Global,
     hub: Option<Commissioning>,
+    words: Vec<u32>,
 }
 
 // What a call to the hub gives: an answer, or words that are taken.
@@ -31,7 +33,7 @@ pub enum Response {
 }
 
 impl fmt::Display for Response {
-    ghost output = { λ _. None };
+    ghost output = { response_text };
 
     fn fmt<W: fmt::Write>(&self, f: &mut fmt::Formatter<W>) -> fmt::Result {
         match self {
@@ -54,21 +56,25 @@ fn commission(heap: Global, wanted: WantedHub) -> Result<Commissioning, HubRefus
     Ok(Commissioning::new(heap, terms))
 }
 
-// The words that a line writes behind its first, none where it writes something else.
-fn words_of(heap: Global, line: &[u8]) -> Result<Option<Vec<u32>>, AllocError> {
-    let mut words = Vec::new(heap);
+// The words that a line writes behind its first, in place of those in the buffer; none where it writes something else.
+fn words_of<'a>(line: &[u8], words: &'a mut Vec<u32>) -> Result<Option<&'a [u32]>, AllocError> {
+    words.clear();
     for text in (Words { text: line }).skip(1) {
         let Some(word) = parse_word(text) else {
             return Ok(None);
         };
         words.push(word)?;
     }
-    Ok(Some(words))
+    Ok(Some(words.as_slice()))
 }
 
 impl Desk {
     pub fn new(heap: Global) -> Desk {
-        Desk { heap, hub: None }
+        Desk {
+            heap,
+            hub: None,
+            words: Vec::new(heap),
+        }
     }
 
     // A hub that is refused leaves the one before.
@@ -86,10 +92,10 @@ impl Desk {
         let Some(hub) = &mut self.hub else {
             return Ok(Answer::Unknown(Missing::Hub));
         };
-        let Some(words) = words_of(self.heap, line)? else {
+        let Some(words) = words_of(line, &mut self.words)? else {
             return Ok(Answer::Unknown(Missing::Word));
         };
-        Ok(hub.read_rules(words.as_slice()).into())
+        Ok(hub.read_rules(words).into())
     }
 
     fn write_rules(&self, room: u32) -> Result<Response, AllocError> {

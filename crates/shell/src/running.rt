@@ -28,7 +28,6 @@ impl<R: BufRead, W: Write> Console<R, W> {
             let Some(line) = self.session.next_line()? else {
                 break;
             };
-            let line = line.as_slice();
             if let Some(call) = hub_call(line) {
                 let response = self.desk.serve(service, call, line)?;
                 self.session.say(&response)?;

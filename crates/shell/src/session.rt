@@ -3,12 +3,12 @@ use std::alloc::Global;
 use std::io::{BufRead, Write};
 use std::{fmt, io};
 
-// The lines that come in, and the answers that go out.
+// The lines that come in, the answers that go out, and the line in hand, whose memory serves the next one too.
 #[derive(Drop)]
 pub struct Session<R, W> {
     input: R,
     output: W,
-    heap: Global,
+    line: Vec<u8>,
 }
 
 impl<R: BufRead, W: Write> Session<R, W> {
@@ -16,34 +16,32 @@ impl<R: BufRead, W: Write> Session<R, W> {
         Session {
             input,
             output,
-            heap,
+            line: Vec::new(heap),
         }
     }
 
-    // Reads up to the next newline, and leaves the newline out; none at the end of the input.
-    fn read_line(&mut self) -> io::Result<Option<Vec<u8>>> {
-        let mut line = Vec::new(self.heap);
-        if self.input.read_until(b'\n', &mut line)? == 0 {
-            return Ok(None);
+    // Reads up to the next newline, and leaves the newline out; answers how many bytes were read, 0 at the end of the input.
+    fn read_line(&mut self) -> io::Result<usize> {
+        self.line.clear();
+        let read = self.input.read_until(b'\n', &mut self.line)?;
+        if self.line.as_slice().last() == Some(&b'\n') {
+            let _ = self.line.pop();
         }
-        if line.as_slice().last() == Some(&b'\n') {
-            let _ = line.pop();
-        }
-        Ok(Some(line))
+        Ok(read)
     }
 
     // Reads the next line that is not passed over, and echoes it; none at the end of the input.
-    pub fn next_line(&mut self) -> io::Result<Option<Vec<u8>>> {
+    pub fn next_line(&mut self) -> io::Result<Option<&[u8]>> {
         // Stays: a count of lines, since nothing says that an input ends.
         for _ in 0..u64::MAX {
-            let Some(line) = self.read_line()? else {
+            if self.read_line()? == 0 {
                 break;
-            };
-            if !is_passed(line.as_slice()) {
+            }
+            if !is_passed(self.line.as_slice()) {
                 self.output.write_all(b"> ")?;
-                self.output.write_all(line.as_slice())?;
+                self.output.write_all(self.line.as_slice())?;
                 self.output.write_all(b"\n")?;
-                return Ok(Some(line));
+                return Ok(Some(self.line.as_slice()));
             }
         }
         Ok(None)

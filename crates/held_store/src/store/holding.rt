@@ -1,6 +1,6 @@
-ghost use Rattle.std.specs.Prelude.{◌≡◌, true, false};
-ghost use Rattle.links.specs.Sets.{KeepsSizes, Within, member};
-ghost use Rattle.held_store.specs.Layers.{held_in, nothing_held, off_held, on_held, sent_down};
+ghost use Rattle.std.specs.Prelude.{◌≡◌};
+ghost use Rattle.links.specs.Sets.{KeepsSizes, Within};
+ghost use Rattle.held_store.specs.Layers.{Fresh, held_in, nothing_held, off_held, on_held, sent_down};
 ghost use Rattle.held_store.specs.Meaning.{layer_of, set_of};
 
 use super::HeldStore;
@@ -14,6 +14,7 @@ impl<S: Store> HeldStore<S> {
     pub fn new(base: S) -> HeldStore<S>
         ensures base { result.base ≡ base }
         ensures layer { layer_of S.Links result ≡ nothing_held (S.Links.set base).links }
+        ensures fresh { Fresh (layer_of S.Links result) }
     {
         HeldStore {
             base,
@@ -50,6 +51,7 @@ impl<S: Store> HeldStore<S> {
         ensures told { result ≡ held_in (layer_of S.Links self.old) }
         ensures none { held_in (layer_of S.Links self.new) ≡ 0 }
         ensures down { Within (set_of S.Links self.old) → layer_of S.Links self.new ≡ sent_down (S.Links.set self.old.base).things (layer_of S.Links self.old) }
+        ensures fresh { Fresh (layer_of S.Links self.new) }
         ensures links { Within (set_of S.Links self.old) → set_of S.Links self.new ≡ set_of S.Links self.old }
         ensures sizes { KeepsSizes (S.Links.set self.old.base) (S.Links.set self.new.base) }
     {
@@ -58,10 +60,8 @@ impl<S: Store> HeldStore<S> {
         held
     }
 
-    // Holds the link on, which is off; a seventeenth change first sends the others down.
+    // Holds the link on; a seventeenth change first sends the others down.
     pub(super) fn hold_on(&mut self, link: Link)
-        requires above { member link (set_of S.Links self.old).links ≡ false }
-        requires below { member link (S.Links.set self.old.base).links ≡ false }
         requires within { Within (set_of S.Links self.old) }
         ensures layer { layer_of S.Links self.new ≡ on_held (S.Links.set self.old.base).things link (layer_of S.Links self.old) }
         ensures sizes { KeepsSizes (S.Links.set self.old.base) (S.Links.set self.new.base) }
@@ -75,11 +75,9 @@ impl<S: Store> HeldStore<S> {
     }
 
     // Stays: like `hold_on`, but a set past its limit is a case that only this one has.
-    // Holds the link off, which is on; a seventeenth change first sends the others down. A set past the limit,
+    // Holds the link off; a seventeenth change first sends the others down. A set past the limit,
     // which switching does not make, would not go down whole: the link is then switched off below.
     pub(super) fn hold_off(&mut self, link: Link)
-        requires above { member link (set_of S.Links self.old).links ≡ true }
-        requires below { member link (S.Links.set self.old.base).links ≡ true }
         ensures layer { layer_of S.Links self.new ≡ off_held (S.Links.set self.old.base).things (S.Links.set self.old.base).limit link (layer_of S.Links self.old) }
         ensures sizes { KeepsSizes (S.Links.set self.old.base) (S.Links.set self.new.base) }
     {

@@ -53,8 +53,8 @@ impl<'a, R: Keyed> OrderedList<'a, R> {
         ensures sought { Sought R.before x.now (items self.now) result }
     {
         let at = self.lower_bound(x);
-        match self.get(at) {
-            Some(record) if !x.comes_before(&record) => Ok(at),
+        match self.as_slice().get(at) {
+            Some(record) if !x.comes_before(record) => Ok(at),
             _ => Err(at),
         }
     }

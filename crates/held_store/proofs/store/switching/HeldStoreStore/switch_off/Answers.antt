@@ -5,28 +5,11 @@ use Rattle.links.proofs.Switching.{off_taken}
 use Rattle.held_store.specs.Layers.{Fresh, layer, set_in, back_on, off_held}
 use Rattle.held_store.specs.Meaning.{layer_of, set_of}
 use Rattle.held_store.proofs.Layers.{set_off}
-use Rattle.held_store.proofs.Changes.{fresh_back_on, not_held_off, removed_short, still_on}
+use Rattle.held_store.proofs.Changes.{fresh_off, removed_short}
 use Rattle.held_store.proofs.store.switching.HeldStoreStore.switch_off.Goals as goal
 
 pub invariant_of-self : goal.invariant_of-self
-invariant_of-self g c =
-    let s = c.args.self.now in
-    let L = g.S.Links in
-    let l = c.args.link in
-    record {
-      few = omega (arith, ap length c.take_back.ensures, removed_short l s.on.items, s.few);
-      fresh = subst (λ v. Fresh (layer (L.set s.base).links s.off.items v)) (sym c.take_back.ensures) (fresh_back_on l (layer_of L s) s.fresh);
-    }
-
-pub hold_off-requires-clause-above : goal.hold_off-requires-clause-above
-hold_off-requires-clause-above g c =
-    let s = c.args.self.now in
-    let L = g.S.Links in
-    let b = L.set s.base in
-    let l = c.args.link in
-    let below = sym c.if-below.ensures in
-    let free = not_held_off l (layer_of L s) s.fresh b.things (sym c.if-not-is_on.ensures) below in
-    ap (λ v. member l (set_in b.things (layer b.links s.off.items v))) c.take_back.ensures ∙ still_on b.things l (back_on l (layer_of L s)) free below
+invariant_of-self g c = record { few = omega (arith, ap length c.take_back.ensures, removed_short c.args.link c.args.self.now.on.items, c.args.self.now.few) }
 
 pub returns-then-below-clause-layer : goal.returns-then-below-clause-layer
 returns-then-below-clause-layer g c =
@@ -71,3 +54,17 @@ returns-else-below-clause-switched g c =
       off_taken (set_of L s) l within (sym c.if-not-is_on.ensures),
       ap (λ v. with_links (set_in b.things v) b) (returns-else-below-clause-layer g c) ∙ ap (λ v. with_links v b) (set_off b.things l b.limit (layer_of L s) (L.lawful.rises s.base)),
     )
+
+pub returns-then-below-clause-fresh : goal.returns-then-below-clause-fresh
+returns-then-below-clause-fresh g c = λ f.
+    let s = c.args.self.now in
+    let L = g.S.Links in
+    let b = L.set s.base in
+    subst (λ v. Fresh v) (sym (returns-then-below-clause-layer g c)) (fresh_off b.things b.limit c.args.link (layer_of L s) f (sym c.if-not-is_on.ensures))
+
+pub returns-else-below-clause-fresh : goal.returns-else-below-clause-fresh
+returns-else-below-clause-fresh g c = λ f.
+    let s = c.args.self.now in
+    let L = g.S.Links in
+    let b = L.set s.base in
+    subst (λ v. Fresh v) (sym (returns-else-below-clause-layer g c)) (fresh_off b.things b.limit c.args.link (layer_of L s) f (sym c.if-not-is_on.ensures))
